@@ -1,0 +1,79 @@
+-- `is_card` meets its contract: its three tests are the rule's, in its order.
+use borrow.Author.Needs.{needs}
+use mathlib.Core.Path.{_≡_, refl, sym, ap, _∙_}
+use native.Mathlib.Omega.{arith}
+use borrow.Author.Tests.{eq-eqb, ne-eqb, le-leb, lt-leb}
+use Rattle.words.proofs.Choices.{and-fails, and-holds, taken, passed}
+use mathlib.Core.Bool.{not}
+use Rattle.words.specs.Bytes.{byte}
+use Rattle.card.specs.Kinds.{facts}
+use Rattle.card.specs.Protection.{isProtected}
+use Rattle.card.specs.Images.{isCard}
+use Rattle.card.proofs.KindLaws.{laid}
+use Rattle.card.proofs.Chip.is_card.Statement.{statement}
+use Rattle.card.proofs.Chip.is_card.Tie as tie
+use Rattle.card.proofs.Chip.is_card.Reads as reads
+use Rattle.card.proofs.Chip.is_card.Lts as lts
+use Rattle.card.proofs.Chip.bits.Reads as bits-reads
+use Rattle.card.proofs.Chip.counter.Reads as counter-reads
+use Rattle.card.proofs.Chip.covered.Reads as covered-reads
+use Rattle.card.proofs.Chip.full.Reads as full-reads
+use Rattle.card.proofs.Chip.size.Reads as size-reads
+use Rattle.card.proofs.protected.Reads as protected-reads
+use Rattle.words.proofs.byte_at.Reads as byte-at-reads
+
+size-requires : tie.Need-size-requires
+size-requires c κs = search needs
+
+returns : tie.Need-returns
+unfolding isCard
+returns c = and-fails _ (ne-eqb _ _ (λ e. c .if1 .taken (e ∙ sym (c .before .size .ensures))))
+
+counter-requires : tie.Need-counter-requires
+counter-requires c κs = search needs
+
+full-requires : tie.Need-full-requires
+full-requires c κs = search needs
+
+byte-at-requires : tie.Need-byte-at-requires
+byte-at-requires c κs = search needs
+
+returns-2 : tie.Need-returns-2
+unfolding isCard
+returns-2 c =
+    let f = facts (c .before .before .before .before .before .before .before .args .self) in
+    let e : c .before .byte-at .result ≡ byte (c .before .before .before .before .before .before .before .args .image .now) (f .counter) = cc in
+    and-holds (eq-eqb _ _ (c .before .before .before .before .if1 .left ∙ c .before .before .before .before .before .size .ensures)) (and-fails _ (lt-leb _ (f .full) (omega (arith, e, c .if2 .taken, c .before .before .full .ensures))))
+
+bits-requires : tie.Need-bits-requires
+bits-requires c κs = search needs
+
+covered-requires : tie.Need-covered-requires
+covered-requires c κs = search needs
+
+protected-requires : tie.Need-protected-requires
+protected-requires c κs = omega (arith, laid (c .before .before .before .before .before .before .before .before .before .args .self) .span, c .before .bits .ensures, c .covered .ensures)
+
+returns-3 : tie.Need-returns-3
+unfolding isCard
+returns-3 c =
+    let f = facts (c .before .before .before .before .before .before .before .before .before .before .args .self) in
+    let im = c .before .before .before .before .before .before .before .before .before .before .args .image .now in
+    let e : c .before .before .before .before .byte-at .result ≡ byte im (f .counter) = cc in
+    let p : c .protected .result ≡ isProtected (f .bits) (f .covered) im (f .counter) = cc in
+    and-holds (eq-eqb _ _ (c .before .before .before .before .before .before .before .if1 .left ∙ c .before .before .before .before .before .before .before .before .size .ensures)) (and-holds (le-leb (byte im (f .counter)) (f .full) (omega (arith, e, c .before .before .before .if2 .left, c .before .before .before .before .before .full .ensures))) (ap not p))
+
+pub is-card-spec : {M : Type 1} → statement M
+is-card-spec =
+    tie.close
+    (tie.spec
+    size-requires
+    returns
+    counter-requires
+    full-requires
+    byte-at-requires
+    returns-2
+    bits-requires
+    covered-requires
+    protected-requires
+    returns-3)

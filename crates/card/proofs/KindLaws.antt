@@ -1,0 +1,76 @@
+-- Laws of the table: what holds of every kind, and how a code card is laid out.
+use mathlib.Core.Path.{_≡_, refl}
+use mathlib.Core.Bool.{true, false, false≢true}
+use mathlib.Core.Logic.{_⊎_, inl, inr}
+use Prim.Native.Nat.{ℕ, _+_, _*_, _/_, _%_, _≤_, _<_}
+use native.Mathlib.Omega.{arith}
+use Rattle.card.specs.Kinds.{Facts, facts}
+use Rattle.card.specs.declared.Chip.{Chip}
+
+-- what holds of every kind
+pub record Laid (f : Facts) : Type 0 where
+  pub room : f .size < 65536
+  pub front : f .memory ≤ f .size
+  pub tally : f .counter + f .digits ≤ f .size
+  pub codes : f .code + f .digits ≤ f .size
+  pub digits : f .digits ≤ 3
+  pub guards : f .bits + (f .covered + 7) / 8 ≤ f .size
+  pub kept : f .covered ≤ f .memory
+  pub span : f .bits + f .covered < 65536
+  pub reached : f .reach ≤ f .covered
+  pub typed : 0 < f .selects
+  pub small : f .full < 256
+
+pub laid : (chip : Chip) → Laid (facts chip)
+laid Chip.I2c1 = record { room = omega arith; front = omega arith; tally = omega arith; codes = omega arith; digits = omega arith; guards = omega arith; kept = omega arith; span = omega arith; reached = omega arith; typed = omega arith; small = omega arith }
+laid Chip.I2c2 = record { room = omega arith; front = omega arith; tally = omega arith; codes = omega arith; digits = omega arith; guards = omega arith; kept = omega arith; span = omega arith; reached = omega arith; typed = omega arith; small = omega arith }
+laid Chip.I2c4 = record { room = omega arith; front = omega arith; tally = omega arith; codes = omega arith; digits = omega arith; guards = omega arith; kept = omega arith; span = omega arith; reached = omega arith; typed = omega arith; small = omega arith }
+laid Chip.I2c8 = record { room = omega arith; front = omega arith; tally = omega arith; codes = omega arith; digits = omega arith; guards = omega arith; kept = omega arith; span = omega arith; reached = omega arith; typed = omega arith; small = omega arith }
+laid Chip.I2c16 = record { room = omega arith; front = omega arith; tally = omega arith; codes = omega arith; digits = omega arith; guards = omega arith; kept = omega arith; span = omega arith; reached = omega arith; typed = omega arith; small = omega arith }
+laid Chip.I2c32 = record { room = omega arith; front = omega arith; tally = omega arith; codes = omega arith; digits = omega arith; guards = omega arith; kept = omega arith; span = omega arith; reached = omega arith; typed = omega arith; small = omega arith }
+laid Chip.I2c64 = record { room = omega arith; front = omega arith; tally = omega arith; codes = omega arith; digits = omega arith; guards = omega arith; kept = omega arith; span = omega arith; reached = omega arith; typed = omega arith; small = omega arith }
+laid Chip.I2c128 = record { room = omega arith; front = omega arith; tally = omega arith; codes = omega arith; digits = omega arith; guards = omega arith; kept = omega arith; span = omega arith; reached = omega arith; typed = omega arith; small = omega arith }
+laid Chip.I2c256 = record { room = omega arith; front = omega arith; tally = omega arith; codes = omega arith; digits = omega arith; guards = omega arith; kept = omega arith; span = omega arith; reached = omega arith; typed = omega arith; small = omega arith }
+laid Chip.Sle4428 = record { room = omega arith; front = omega arith; tally = omega arith; codes = omega arith; digits = omega arith; guards = omega arith; kept = omega arith; span = omega arith; reached = omega arith; typed = omega arith; small = omega arith }
+laid Chip.Sle4442 = record { room = omega arith; front = omega arith; tally = omega arith; codes = omega arith; digits = omega arith; guards = omega arith; kept = omega arith; span = omega arith; reached = omega arith; typed = omega arith; small = omega arith }
+
+-- how a code card is laid out: the code stands behind the counter, D1 does not reach the counter's bytes
+pub record Coded (f : Facts) : Type 0 where
+  pub coded : f .coded ≡ true
+  pub inside : f .counter < f .size
+  pub behind : f .counter < f .code
+  pub apart : (f .counter < f .bits) ⊎ (f .bits + (f .reach + 7) / 8 ≤ f .counter)
+  pub opens : 0 < f .full
+  pub pageless : f .page ≡ 0
+
+pub coded : (chip : Chip) → facts chip .coded ≡ true → Coded (facts chip)
+coded Chip.Sle4428 e = record { coded = e; inside = omega arith; behind = omega arith; apart = inl (omega arith); opens = omega arith; pageless = refl }
+coded Chip.Sle4442 e = record { coded = e; inside = omega arith; behind = omega arith; apart = inr (omega arith); opens = omega arith; pageless = refl }
+coded Chip.I2c1 e = absurd (false≢true e)
+coded Chip.I2c2 e = absurd (false≢true e)
+coded Chip.I2c4 e = absurd (false≢true e)
+coded Chip.I2c8 e = absurd (false≢true e)
+coded Chip.I2c16 e = absurd (false≢true e)
+coded Chip.I2c32 e = absurd (false≢true e)
+coded Chip.I2c64 e = absurd (false≢true e)
+coded Chip.I2c128 e = absurd (false≢true e)
+coded Chip.I2c256 e = absurd (false≢true e)
+
+-- how an I2C card is laid out: it is memory alone, in whole chip pages
+pub record Plain (f : Facts) : Type 0 where
+  pub paged : 0 < f .page
+  pub whole : f .size % f .page ≡ 0
+  pub alone : f .memory ≡ f .size
+
+pub plain : (chip : Chip) → facts chip .coded ≡ false → Plain (facts chip)
+plain Chip.Sle4428 e = absurd (false≢true (cc))
+plain Chip.Sle4442 e = absurd (false≢true (cc))
+plain Chip.I2c1 e = record { paged = omega arith; whole = refl; alone = refl }
+plain Chip.I2c2 e = record { paged = omega arith; whole = refl; alone = refl }
+plain Chip.I2c4 e = record { paged = omega arith; whole = refl; alone = refl }
+plain Chip.I2c8 e = record { paged = omega arith; whole = refl; alone = refl }
+plain Chip.I2c16 e = record { paged = omega arith; whole = refl; alone = refl }
+plain Chip.I2c32 e = record { paged = omega arith; whole = refl; alone = refl }
+plain Chip.I2c64 e = record { paged = omega arith; whole = refl; alone = refl }
+plain Chip.I2c128 e = record { paged = omega arith; whole = refl; alone = refl }
+plain Chip.I2c256 e = record { paged = omega arith; whole = refl; alone = refl }

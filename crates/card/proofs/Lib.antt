@@ -1,0 +1,3 @@
+pub mod CounterLaws
+pub mod ProtectionLaws
+pub mod KindLaws

@@ -1,0 +1,4 @@
+pub mod Kinds
+pub mod Counters
+pub mod Protection
+pub mod Images

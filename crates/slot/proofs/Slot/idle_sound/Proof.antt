@@ -1,0 +1,29 @@
+-- `idle_sound` meets its contract: its tests are the rule's.
+use borrow.Author.Needs.{needs}
+use mathlib.Core.Path.{_≡_, refl, sym, ap, _∙_}
+use mathlib.Core.Bool.{Bool, true, false, not}
+use native.Mathlib.Omega.{arith}
+use Prim.Native.Nat.{ℕ, _+_, _-_, _≤_, _<_}
+use borrow.Author.Tests.{eq-eqb, ne-eqb, le-leb, lt-leb, not-true, not-false}
+use Rattle.words.proofs.Choices.{and-fails, and-holds, or-taken, or-passed, means-off, means-on, taken, passed}
+use Rattle.words.specs.Choice.{_is_, _and_}
+use Rattle.slot.specs.Slots.{idleSound}
+use Rattle.slot.proofs.Slot.idle_sound.Statement.{statement}
+use Rattle.slot.proofs.Slot.idle_sound.Tie as tie
+use Rattle.slot.proofs.Slot.idle_sound.Reads as reads
+use Rattle.slot.proofs.Slot.idle_sound.Lts as lts
+
+returns : tie.Need-returns
+unfolding idleSound
+returns c = means-off _ (ap not (c .if1 .taken))
+
+returns-2 : tie.Need-returns-2
+unfolding idleSound
+returns-2 c = means-on (ap not (c .before .before .if1 .left)) (and-fails _ (ne-eqb _ 0 (c .if2 .taken)))
+
+returns-3 : tie.Need-returns-3
+unfolding idleSound
+returns-3 c = means-on (ap not (c .before .before .before .if1 .left)) (and-holds (eq-eqb _ 0 (c .before .if2 .left)) refl)
+
+pub idle-sound-spec : {M : Type 1} → statement M
+idle-sound-spec = tie.close (tie.spec returns returns-2 returns-3)

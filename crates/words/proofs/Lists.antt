@@ -1,0 +1,130 @@
+-- Laws of lists: bytes over a buffer, a run, a part that was lent and came back, stores that miss a place.
+use mathlib.Core.Path.{_≡_, refl, sym, ap, _∙_}
+use mathlib.Core.List.{List, [], _∷_, _++_, append-assoc, append-nil}
+use mathlib.Core.Bool.{Bool, true, false}
+use mathlib.Core.Logic.{_⊎_, inl, inr}
+use Prim.Native.Nat.{ℕ, zero, suc, _+_, _-_, _≤_, _<_}
+use native.Mathlib.Nat.{zero-add, not-suc-le-zero, le-of-suc-le-suc, add-suc, suc-add, add-zero}
+use native.Mathlib.Numerals.{add-one}
+use native.Mathlib.Omega.{arith}
+use lib.ListN.{length, take, drop, set, getD, replicate, length-append, length-take, length-drop, length-set, drop-of-length-le}
+use lib.Seq.{length-take-le, set-at, drop-cons, drop-drop, drop-at, append-snoc, take-all, sets, getD-set-other, getD-set-same}
+use borrow.Rule.Slice.PartMut.{putMid}
+use borrow.Author.Tests.{eq-eqb, ne-eqb, eqb-true}
+use Rattle.words.specs.Choice.{_and_, _is_}
+use Rattle.words.specs.Bytes.{byte, same, over, run}
+use Rattle.words.proofs.Choices.{and-fails, and-holds, and-true}
+
+-- ---- bytes over a buffer
+-- a loop that copies from the front: one turn
+copy-suc : (i : ℕ) (s d : List ℕ) → i < length s → i < length d → set (take i s ++ drop i d) i (getD s i 0) ≡ take (suc i) s ++ drop (suc i) d
+copy-suc i [] d h k = absurd (not-suc-le-zero h)
+copy-suc i (x ∷ s) [] h k = absurd (not-suc-le-zero k)
+copy-suc zero (x ∷ s) (y ∷ d) h k = refl
+copy-suc (suc i) (x ∷ s) (y ∷ d) h k = ap (λ (t : List ℕ). x ∷ t) (copy-suc i s d (le-of-suc-le-suc h) (le-of-suc-le-suc k))
+
+pub copy-more : (i : ℕ) (s d : List ℕ) → i < length s → i < length d → set (take i s ++ drop i d) i (getD s i 0) ≡ take (i + 1) s ++ drop (i + 1) d
+copy-more i s d h k = rw (add-one i) (copy-suc i s d h k)
+
+pub over-none : (d : List ℕ) → over [] d ≡ d
+unfolding over
+over-none d = refl
+
+pub length-over : (b d : List ℕ) → length b ≤ length d → length (over b d) ≡ length d
+unfolding over
+length-over b d h = simp (length-append, length-drop) (omega arith)
+
+-- one byte more: a store just past the bytes
+pub over-snoc : (b d : List ℕ) (x n : ℕ) → length b ≡ n → n < length d → set (over b d) n x ≡ over (b ++ (x ∷ [])) d
+unfolding over
+over-snoc b d x n e h =
+    let k : length b < length d = omega arith in
+    ap (λ (t : List ℕ). set (b ++ t) n x) (drop-cons d (length b) 0 k)
+    ∙ set-at b (getD d (length b) 0) (drop (suc (length b)) d) x n e
+    ∙ sym (append-snoc b x (drop (suc (length b)) d))
+    ∙ ap (λ (m : ℕ). (b ++ (x ∷ [])) ++ drop m d) (sym (length-append b (x ∷ []) ∙ add-one (length b)))
+
+-- two bytes more
+pub over-two : (b d : List ℕ) (n x y : ℕ) → length b ≡ n → n + 2 ≤ length d → set (set (over b d) n x) (n + 1) y ≡ over (b ++ (x ∷ y ∷ [])) d
+over-two b d n x y e h =
+    ap (λ (t : List ℕ). set t (n + 1) y) (over-snoc b d x n e (omega arith))
+    ∙ over-snoc (b ++ (x ∷ [])) d y (n + 1) (length-append b (x ∷ []) ∙ ap (λ (m : ℕ). m + 1) e) (omega arith)
+    ∙ ap (λ (t : List ℕ). over t d) (append-assoc b (x ∷ []) (y ∷ []))
+
+-- a header over the front of a whole whose tail was filled first
+pub over-head : (k : ℕ) (h b a : List ℕ) → length h ≡ k → k ≤ length a → over h (take k a ++ over b (drop k a)) ≡ over (h ++ b) a
+unfolding over
+over-head k h b a e l =
+    ap (λ (t : List ℕ). h ++ t) (drop-at (take k a) (over b (drop k a)) (length h) (length-take-le k a l ∙ sym e))
+    ∙ sym (append-assoc h b (drop (length b) (drop k a)))
+    ∙ ap (λ (t : List ℕ). (h ++ b) ++ t) (drop-drop (length b) k a ∙ ap (λ (m : ℕ). drop m a) (sym (length-append h b ∙ ap (λ (m : ℕ). m + length b) e)))
+
+-- ---- runs
+pub length-run : (f : ℕ → ℕ) (k n : ℕ) → length (run f k n) ≡ n
+unfolding run
+length-run f k zero = refl
+length-run f k (suc n) = ap suc (length-run f (suc k) n)
+
+run-suc : (f : ℕ → ℕ) (k n : ℕ) → run f k (suc n) ≡ run f k n ++ (f (k + n) ∷ [])
+unfolding run
+run-suc f k zero = ap (λ (m : ℕ). f m ∷ []) (sym (add-zero k))
+run-suc f k (suc n) = ap (λ (t : List ℕ). f k ∷ t) (run-suc f (suc k) n ∙ ap (λ (m : ℕ). run f (suc k) n ++ (f m ∷ [])) (suc-add k n ∙ sym (add-suc k n)))
+
+-- a loop that fills from the front by a rule: one turn
+pub run-more : (f : ℕ → ℕ) (k n : ℕ) (d : List ℕ) → n < length d → set (over (run f k n) d) n (f (k + n)) ≡ over (run f k (n + 1)) d
+run-more f k n d h =
+    over-snoc (run f k n) d (f (k + n)) n (length-run f k n) h
+    ∙ ap (λ (t : List ℕ). over t d) (sym (ap (run f k) (add-one n) ∙ run-suc f k n))
+
+pub run-next : (f : ℕ → ℕ) (n : ℕ) (d : List ℕ) → n < length d → set (over (run f 0 n) d) n (f n) ≡ over (run f 0 (n + 1)) d
+run-next f n d h = ap (λ (m : ℕ). set (over (run f 0 n) d) n (f m)) (sym (zero-add n)) ∙ run-more f 0 n d h
+
+-- ---- the tail `&s[k..]`, as the borrow checker has it: `take (length s - k) (drop k s)`
+pub tail-is : (k : ℕ) (a : List ℕ) → take (length a - k) (drop k a) ≡ drop k a
+tail-is k a = take-all (length a - k) (drop k a) (omega (arith, length-drop k a))
+
+-- `&mut a[k..]` was lent and came back as y: what a holds
+pub lent-back : (k : ℕ) (a : List ℕ) (y : List ℕ) → putMid k (length a - k) a y ≡ take k a ++ y
+lent-back k a y =
+    ap (λ (t : List ℕ). take k a ++ (y ++ t)) (drop-of-length-le (drop k a) {i = length a - k} (omega (arith, length-drop k a)))
+    ∙ ap (λ (t : List ℕ). take k a ++ t) (append-nil y)
+
+-- the same where it came back with b over it
+pub lent-tail : (k : ℕ) (a b : List ℕ) {y : List ℕ} → y ≡ over b (take (length a - k) (drop k a)) → putMid k (length a - k) a y ≡ take k a ++ over b (drop k a)
+lent-tail k a b {y} e = lent-back k a y ∙ ap (λ (t : List ℕ). take k a ++ t) (e ∙ ap (over b) (tail-is k a))
+
+-- ---- stores
+-- a run of stores leaves a place before it, or behind it, alone
+pub byte-sets : (l : List ℕ) (i : ℕ) (vs : List ℕ) (k : ℕ) → (k < i) ⊎ (i + length vs ≤ k) → byte (sets l i vs) k ≡ byte l k
+byte-sets l i [] k h = refl
+byte-sets l i (v ∷ vs) k (inl h) = byte-sets (set l i v) (suc i) vs k (inl (omega arith)) ∙ getD-set-other l i k v 0 (λ e. omega arith)
+byte-sets l i (v ∷ vs) k (inr h) = byte-sets (set l i v) (suc i) vs k (inr (omega arith)) ∙ getD-set-other l i k v 0 (λ e. omega arith)
+
+-- one store more, behind a run of them
+pub sets-snoc : (l : List ℕ) (i : ℕ) (vs : List ℕ) (v : ℕ) → sets l i (vs ++ (v ∷ [])) ≡ set (sets l i vs) (i + length vs) v
+sets-snoc l i [] v = ap (λ (n : ℕ). set l n v) (sym (add-zero i))
+sets-snoc l i (w ∷ vs) v = sets-snoc (set l i w) (suc i) vs v ∙ ap (λ (n : ℕ). set (sets (set l i w) (suc i) vs) n v) (omega arith)
+
+-- ---- the same bytes
+pub same-step : (a b : List ℕ) (i : ℕ) → i < length a → i < length b → same (drop i a) (drop i b) ≡ (byte a i is byte b i and same (drop (i + 1) a) (drop (i + 1) b))
+unfolding same
+same-step a b i h k = rw (drop-cons a i 0 h, drop-cons b i 0 k, add-one i)
+
+pub same-end : (a b : List ℕ) → length a ≡ length b → same (drop (length a) a) (drop (length a) b) ≡ true
+unfolding same
+same-end a b e = rw (drop-of-length-le a {i = length a} (omega arith), drop-of-length-le b {i = length a} (omega arith))
+
+pub same-eq : (a b : List ℕ) → same a b ≡ true → a ≡ b
+unfolding same
+same-eq [] [] e = refl
+same-eq [] (y ∷ b) e = absurd (mathlib.Core.Bool.false≢true e)
+same-eq (x ∷ a) [] e = absurd (mathlib.Core.Bool.false≢true e)
+same-eq (x ∷ a) (y ∷ b) e =
+    let p : x ≡ y = eqb-true x y (and-true _ _ e .0) in
+    let q : a ≡ b = same-eq a b (and-true _ _ e .1) in
+    cc
+
+pub same-self : (a : List ℕ) → same a a ≡ true
+unfolding same
+same-self [] = refl
+same-self (x ∷ a) = sym (and-holds (eq-eqb x x refl) (sym (same-self a)))

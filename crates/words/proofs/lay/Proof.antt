@@ -1,0 +1,73 @@
+-- `lay` meets its contract. The loop's invariant: so many bytes of the source, and behind them the buffer as it was.
+use borrow.Author.Needs.{needs}
+use mathlib.Core.Path.{_≡_, refl, sym, ap, _∙_}
+use native.Mathlib.Omega.{arith}
+use Prim.Native.Nat.{ℕ, _+_, _-_, _≤_, _<_}
+use mathlib.Core.List.{List, _++_}
+use lib.ListN.{length, take, drop, set, getD, length-set}
+use lib.Seq.{take-length}
+use Rattle.words.specs.Bytes.{over}
+use Rattle.words.proofs.Lists.{copy-more}
+use Rattle.words.proofs.lay.Statement.{statement}
+use Rattle.words.proofs.lay.Tie as tie
+use Rattle.words.proofs.lay.Reads as reads
+use Rattle.words.proofs.lay.Lts as lts
+
+abbrev Inv-loop : tie.InvT-loop
+Inv-loop src dst₀ i₀ dst i = (i ≤ length src) × (length dst ≡ length dst₀) × (dst ≡ take i src ++ drop i dst₀)
+
+abbrev μ-loop : tie.MeasureT-loop
+μ-loop src dst₀ i₀ dst i = length src - i
+
+loop-holds : tie.Need-loop-holds Inv-loop μ-loop
+loop-holds c = search needs
+
+shared-slice-read-dst : tie.Need-shared-slice-read-dst Inv-loop μ-loop
+shared-slice-read-dst c = search needs
+
+slice-write-dst : tie.Need-slice-write-dst Inv-loop μ-loop
+slice-write-dst c = search needs
+
+add-i : tie.Need-add-i Inv-loop μ-loop
+add-i c = search needs
+
+loop-less : tie.Need-loop-less Inv-loop μ-loop
+loop-less c = search needs
+
+loop-again : tie.Need-loop-again Inv-loop μ-loop
+loop-again c =
+    let l = c .before .before .loop in
+    let s = c .before .before .before .args .src .now in
+    let d = c .before .before .before .args .dst .now in
+    (
+        omega arith,
+        simp length-set (l .inv .1),
+        ap (λ (t : List ℕ). set t (l .i) (getD s (l .i) 0)) (l .inv .2) ∙ copy-more (l .i) s d (omega arith) (omega arith)
+    )
+
+same-length : tie.Need-same-length Inv-loop μ-loop
+same-length c = search needs
+
+returns : tie.Need-returns Inv-loop μ-loop
+unfolding over
+returns c =
+    let l = c .before .loop in
+    let s = c .before .before .args .src .now in
+    let d = c .before .before .args .dst .now in
+    let e : l .i ≡ length s = omega arith in
+    l .inv .2 ∙ ap (λ (k : ℕ). take k s ++ drop k d) e ∙ ap (λ (t : List ℕ). t ++ drop (length s) d) (take-length s)
+
+pub lay-spec : {M : Type 1} → statement M
+lay-spec =
+    tie.close
+    (tie.spec
+    Inv-loop
+    μ-loop
+    loop-holds
+    shared-slice-read-dst
+    slice-write-dst
+    add-i
+    loop-less
+    loop-again
+    same-length
+    returns)

@@ -1,0 +1,67 @@
+// Bytes: read, compared, copied. Inner functions; no answer of the reader is decided here.
+// Each says the one result it gives; those that write into a lent buffer ask that the bytes fit.
+
+ghost use mathlib.Core.Path.{_≡_};
+ghost use Prim.Native.Nat.{ℕ, _+_, _≤_, _<_};
+ghost use mathlib.Core.List.{[], _∷_, _++_};
+ghost use lib.ListN.{length, set};
+ghost use Rattle.words.specs.Bytes.{byte, same, fourAt, over};
+
+// A byte as a wider number.
+pub fn wide(b: u8) -> usize
+    ensures { λ r. ⌜ (r ≡ b) × (r < 256) ⌝ }
+{
+    b as usize
+}
+
+// Byte k, 0 beyond the end.
+pub fn byte_at(s: &[u8], k: usize) -> u8
+    ensures { λ r. ⌜ r ≡ byte (now (s .entry)) k ⌝ }
+{
+    if k < s.len() { s[k] } else { 0 }
+}
+
+// The number in the four bytes from k on, low first.
+pub fn four_at(s: &[u8], k: usize) -> usize
+    requires { ⌜ k + 4 ≤ length (now s) ⌝ }
+    ensures { λ r. ⌜ r ≡ fourAt (now (s .entry)) k ⌝ }
+{
+    wide(s[k]) + 256 * wide(s[k + 1]) + 65536 * wide(s[k + 2]) + 16777216 * wide(s[k + 3])
+}
+
+// Whether two slices of one length hold the same bytes.
+pub fn same_bytes(a: &[u8], b: &[u8]) -> bool
+    requires { ⌜ length (now a) ≡ length (now b) ⌝ }
+    ensures { λ r. ⌜ r ≡ same (now (a .entry)) (now (b .entry)) ⌝ }
+{
+    let mut i = 0;
+    while i < a.len() {
+        if a[i] != b[i] {
+            return false;
+        }
+        i += 1;
+    }
+    true
+}
+
+// Lays bytes over the front of a buffer.
+pub fn lay(src: &[u8], dst: &mut [u8])
+    requires { ⌜ length (now src) ≤ length (now dst) ⌝ }
+    ensures { λ _. ⌜ now (dst .exit) ≡ over (now (src .entry)) (now (dst .entry)) ⌝ }
+{
+    let mut i = 0;
+    while i < src.len() {
+        dst[i] = src[i];
+        i += 1;
+    }
+}
+
+// Puts two bytes behind the n that stand there, and gives the new length.
+pub fn put_two(out: &mut [u8], n: usize, high: u8, low: u8) -> usize
+    requires { ⌜ n + 2 ≤ length (now out) ⌝ }
+    ensures { λ r. ⌜ (r ≡ n + 2) × (now (out .exit) ≡ set (set (now (out .entry)) n high) (n + 1) low) ⌝ }
+{
+    out[n] = high;
+    out[n + 1] = low;
+    n + 2
+}
