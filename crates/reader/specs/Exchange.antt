@@ -1,0 +1,105 @@
+-- One message, one insertion, one removal: what comes of each, for every input.
+use mathlib.Core.Path.{_≡_}
+use Prim.Native.Nat.{ℕ}
+use mathlib.Core.Bool.{Bool, true, false, not}
+use mathlib.Core.List.{List, []}
+use lib.ListN.{length}
+use lib.Dec.{ltb}
+use Rattle.words.specs.Choice.{_⇒_⁏_}
+use Rattle.words.specs.Bytes.{over}
+use Rattle.card.specs.declared.Chip.{Chip}
+use Rattle.card.specs.declared.Known.{Known}
+use Rattle.card.specs.declared.Known.the-variants.{Is, Unknown}
+use Rattle.card.specs.Kinds.{facts, chipOf}
+use Rattle.card.specs.Images.{isCard}
+use Rattle.slot.specs.declared.Slot.{Slot}
+use Rattle.slot.specs.declared.Holds.{Holds}
+use Rattle.slot.specs.declared.Holds.the-variants.{Empty, Card}
+use Rattle.slot.specs.Slots.{occupied, imageIsCard, sound, inserted, powered}
+use Rattle.command.specs.Orders.{Deed, commanded, reset}
+use Rattle.reader.specs.declared.Fault.{Fault}
+use Rattle.reader.specs.declared.Refusal.{Refusal}
+use Rattle.reader.specs.declared.Verdict.{Verdict}
+use Rattle.reader.specs.declared.Reply.{Reply}
+use Rattle.reader.specs.Messages.{Request, PowerOn, PowerOff, SlotStatus, Transfer, Unsupported, typeByte, apdu, requestOf, faultOf, isClear, answer}
+
+-- "Turned down without an answer": the numbers of the table
+abbrev pub numberOf : Refusal → ℕ
+numberOf Refusal.Buffer = 1
+numberOf Refusal.Message = 2
+numberOf Refusal.Image = 3
+numberOf Refusal.Record = 4
+numberOf Refusal.Occupied = 5
+
+-- what comes of a call: the number it is turned down with, or 0; the answer; the slot record and the image afterwards
+pub record Outcome : Type 0 where
+  pub number : ℕ
+  pub answer : List ℕ
+  pub slot : Slot
+  pub image : List ℕ
+
+-- "Each returns its number and answer length 0; slot, image and answer buffer keep every byte"
+abbrev pub turnedDown : Refusal → Slot → List ℕ → Outcome
+turnedDown r s image = record { number = numberOf r; answer = []; slot = s; image = image }
+
+-- a message that does nothing to the slot and the image but what it says of the slot
+abbrev pub idle : Slot → List ℕ → Deed
+idle s image = record { said = []; slot = s; image = image }
+
+-- what a message without a fault does; 62h and 6Fh come here with a card alone
+unfoldable pub deed : Request → Holds → Slot → List ℕ → List ℕ → Deed
+deed PowerOn Empty s image m = idle s image
+deed PowerOn (Card chip) s image m = record { said = reset (facts chip) image; slot = powered true s; image = image }
+deed PowerOff h s image m = idle (powered false s) image
+deed SlotStatus h s image m = idle s image
+deed Transfer Empty s image m = idle s image
+deed Transfer (Card chip) s image m = commanded (facts chip) s image (apdu m)
+deed Unsupported h s image m = idle s image
+
+-- the answer to a message with fault f and deed d
+abbrev pub answered : Request → List ℕ → Fault → Deed → Outcome
+answered r m f d = record { number = 0; answer = answer r m f (d .slot) (d .said); slot = d .slot; image = d .image }
+
+-- "a failed message has no data and changes neither slot nor image"
+unfoldable pub replied : Request → Fault → Slot → List ℕ → List ℕ → Outcome
+replied r f s image m = answered r m f (isClear f ⇒ deed r (s .holds) s image m ⁏ idle s image)
+
+unfoldable pub reply : Request → Slot → List ℕ → List ℕ → Outcome
+reply r s image m = replied r (faultOf r s m) s image m
+
+-- "A message is tested 1, 2, 3, 4", room being the length of the answer buffer
+unfoldable pub exchange : Slot → List ℕ → List ℕ → ℕ → Outcome
+exchange s image m room =
+    ltb room 271 ⇒ turnedDown Refusal.Buffer s image
+    ⁏ ltb (length m) 10 ⇒ turnedDown Refusal.Message s image
+    ⁏ not (imageIsCard (s .holds) image) ⇒ turnedDown Refusal.Image s image
+    ⁏ not (sound s image) ⇒ turnedDown Refusal.Record s image
+    ⁏ reply (requestOf (typeByte m)) s image m
+
+-- "Insertion tests 5, then 3"; "Insertion gives: inactive, no type, page 8, closed, image unchanged"
+unfoldable pub insertedAs : Known → Slot → List ℕ → Outcome
+insertedAs (Is chip) s image = isCard (facts chip) image ⇒ record { number = 0; answer = []; slot = inserted chip; image = image } ⁏ turnedDown Refusal.Image s image
+insertedAs Unknown s image = turnedDown Refusal.Image s image
+
+unfoldable pub insertion : Slot → ℕ → List ℕ → Outcome
+insertion s kind image =
+    occupied (s .holds) ⇒ turnedDown Refusal.Occupied s image
+    ⁏ insertedAs (chipOf kind) s image
+
+-- The verdict of a call: its number, and the answer's length.
+abbrev pub number : Verdict → ℕ
+number (Verdict.Answered n) = 0
+number (Verdict.Refused r) = numberOf r
+
+abbrev pub answerLength : Verdict → ℕ
+answerLength (Verdict.Answered n) = n
+answerLength (Verdict.Refused r) = 0
+
+-- What a call gives where o is to come of it: the verdict's number and length, the next slot, the image as it left it, and the answer
+-- buffer, the answer laid over what it held. Turned down, the answer is empty and the buffer is as it was.
+pub record Gives (o : Outcome) (r : Reply) (left was holds : List ℕ) : Type 0 where
+  pub number : number (r .verdict) ≡ o .number
+  pub len : answerLength (r .verdict) ≡ length (o .answer)
+  pub slot : r .slot ≡ o .slot
+  pub image : left ≡ o .image
+  pub buffer : holds ≡ over (o .answer) was

@@ -1,0 +1,4 @@
+pub mod Messages
+pub mod Exchange
+pub mod Runs
+pub mod Rules
