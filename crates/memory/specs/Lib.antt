@@ -1,3 +1,4 @@
 pub mod Reads
 pub mod Pages
 pub mod Codes
+pub mod Inner

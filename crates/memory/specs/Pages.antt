@@ -4,19 +4,17 @@ use mathlib.Core.List.{List, [], _∷_}
 use lib.ListN.{set}
 use Rattle.words.specs.Choice.{_⇒_⁏_, _is_}
 
--- With a reader page and a chip page:
-module _ (reader chip : ℕ) where
-  -- "the data are cut at every card address that is a multiple of the reader page": the start of the cut that address a is in,
-  -- the cut of the address before having started at c
-  unfoldable pub cutStart : ℕ → ℕ → ℕ
-  cutStart c a = a % reader is 0 ⇒ a ⁏ c
+-- "the data are cut at every card address that is a multiple of the reader page": the start of the cut that address a is in, the cut of
+-- the address before having started at c
+unfoldable pub cutStart : ℕ → ℕ → ℕ → ℕ
+cutStart reader c a = a % reader is 0 ⇒ a ⁏ c
 
-  -- "the chip fixes the address above its own page and the low part runs on, round to the page start": where the byte for
-  -- address a lands, in a cut that starts at c
-  unfoldable pub lands : ℕ → ℕ → ℕ
-  lands c a = c - c % chip + (c % chip + (a - c)) % chip
+-- "the chip fixes the address above its own page and the low part runs on, round to the page start": where the byte for address a lands,
+-- in a cut that starts at c
+unfoldable pub lands : ℕ → ℕ → ℕ → ℕ
+lands chip c a = c - c % chip + (c % chip + (a - c)) % chip
 
-  -- the bytes vs written from address a on, the cut so far having started at c; "later bytes overwrite"
-  unfoldable pub pageWrite : List ℕ → ℕ → ℕ → List ℕ → List ℕ
-  pageWrite image c a [] = image
-  pageWrite image c a (v ∷ vs) = pageWrite (set image (lands (cutStart c a) a) v) (cutStart c a) (a + 1) vs
+-- the bytes vs written from address a on, the cut so far having started at c; "later bytes overwrite"
+unfoldable pub pageWrite : ℕ → ℕ → List ℕ → ℕ → ℕ → List ℕ → List ℕ
+pageWrite reader chip image c a [] = image
+pageWrite reader chip image c a (v ∷ vs) = pageWrite reader chip (set image (lands chip (cutStart reader c a) a) v) (cutStart reader c a) (a + 1) vs

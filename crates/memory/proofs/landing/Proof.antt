@@ -1,0 +1,43 @@
+-- `landing` meets its contract: the sum is the rule's.
+use borrow.Author.Needs.{needs}
+use mathlib.Core.Path.{_≡_, refl, sym, ap, ap₂, _∙_, subst}
+use mathlib.Core.Bool.{Bool, true, false, not}
+use native.Mathlib.Omega.{arith}
+use Prim.Native.Nat.{ℕ, _+_, _-_, _*_, _/_, _%_, _^_, _≤_, _<_}
+use borrow.Author.Tests.{eq-eqb, ne-eqb, le-leb, lt-leb, not-true, not-false}
+use lib.ListN.{length, take, drop, set, getD, replicate, length-set, length-take, length-drop}
+use mathlib.Core.List.{List, [], _∷_, _++_}
+use Rattle.words.proofs.Choices.{first, rest, taken, passed, and-fails, and-holds}
+use Rattle.words.specs.Bytes.{byte, over, same}
+use native.Mathlib.Nat.{mod-le, mod-lt}
+use Rattle.memory.specs.Pages.{lands}
+use Rattle.memory.proofs.landing.Statement.{statement}
+use Rattle.memory.proofs.landing.Tie as tie
+use Rattle.memory.proofs.landing.Reads as reads
+use Rattle.memory.proofs.landing.Lts as lts
+
+rem-low : tie.Need-rem-low
+rem-low c = search needs
+
+sub-result : tie.Need-sub-result
+sub-result c = omega (arith, mod-le (c .args .c) (c .args .chip))
+
+sub-result-2 : tie.Need-sub-result-2
+sub-result-2 c = search needs
+
+add-result : tie.Need-add-result
+add-result c = let h : c .args .c % c .args .chip < c .args .chip = mod-lt (c .args .c) (omega arith) in omega arith
+
+rem-result : tie.Need-rem-result
+rem-result c = search needs
+
+add-result-2 : tie.Need-add-result-2
+add-result-2 c = let h : (c .args .c % c .args .chip + (c .args .a - c .args .c)) % c .args .chip < c .args .chip = mod-lt _ (omega arith) in omega arith
+
+returns : tie.Need-returns
+unfolding lands
+returns c = refl
+
+pub landing-spec : {M : Type 1} → statement M
+landing-spec =
+    tie.close (tie.spec rem-low sub-result sub-result-2 add-result rem-result add-result-2 returns)

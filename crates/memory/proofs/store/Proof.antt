@@ -1,0 +1,47 @@
+-- `store` meets its contract: the lent tail comes back with the data laid over it.
+use borrow.Author.Needs.{needs}
+use mathlib.Core.Path.{_≡_, refl, sym, ap, ap₂, _∙_, subst}
+use mathlib.Core.Bool.{Bool, true, false, not}
+use native.Mathlib.Omega.{arith}
+use Prim.Native.Nat.{ℕ, _+_, _-_, _*_, _/_, _%_, _^_, _≤_, _<_}
+use borrow.Author.Tests.{eq-eqb, ne-eqb, le-leb, lt-leb, not-true, not-false}
+use lib.ListN.{length, take, drop, set, getD, replicate, length-set, length-take, length-drop}
+use mathlib.Core.List.{List, [], _∷_, _++_}
+use Rattle.words.proofs.Choices.{first, rest, taken, passed, and-fails, and-holds}
+use Rattle.words.specs.Bytes.{byte, over, same}
+use mathlib.Core.List.{append-assoc}
+use lib.Seq.{sets, sets-eq, drop-drop}
+use Rattle.words.proofs.Lists.{lent-tail}
+use Rattle.memory.proofs.store.Statement.{statement}
+use Rattle.memory.proofs.store.Tie as tie
+use Rattle.memory.proofs.store.Reads as reads
+use Rattle.memory.proofs.store.Lts as lts
+use Rattle.words.proofs.lay.Reads as lay-reads
+
+sub-lay : tie.Need-sub-lay
+sub-lay c = search needs
+
+part-lay-start : tie.Need-part-lay-start
+part-lay-start c = search needs
+
+part-lay-end : tie.Need-part-lay-end
+part-lay-end c = search needs
+
+lay-requires : tie.Need-lay-requires
+lay-requires c κs = search needs
+
+same-length : tie.Need-same-length
+same-length c = search needs
+
+returns : tie.Need-returns
+unfolding over
+returns c =
+    let a = c .before .before .before .before .before .before .args in
+    lent-tail (a .at) (a .image .now) (a .«data» .now) (c .before .before .lay .ensures)
+    ∙ ap (λ (t : List ℕ). take (a .at) (a .image .now) ++ (a .«data» .now ++ t)) (drop-drop (length (a .«data» .now)) (a .at) (a .image .now))
+    ∙ sym (append-assoc (take (a .at) (a .image .now)) (a .«data» .now) (drop (a .at + length (a .«data» .now)) (a .image .now)))
+    ∙ sym (sets-eq (a .«data» .now) (a .image .now) (a .at) (omega arith))
+
+pub store-spec : {M : Type 1} → statement M
+store-spec =
+    tie.close (tie.spec sub-lay part-lay-start part-lay-end lay-requires same-length returns)

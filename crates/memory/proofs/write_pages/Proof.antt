@@ -1,0 +1,52 @@
+-- `write_pages` meets its contract: where nothing runs round, a page write is a store.
+use borrow.Author.Needs.{needs}
+use mathlib.Core.Path.{_≡_, refl, sym, ap, ap₂, _∙_, subst}
+use mathlib.Core.Bool.{Bool, true, false, not}
+use native.Mathlib.Omega.{arith}
+use Prim.Native.Nat.{ℕ, _+_, _-_, _*_, _/_, _%_, _^_, _≤_, _<_}
+use borrow.Author.Tests.{eq-eqb, ne-eqb, le-leb, lt-leb, not-true, not-false}
+use lib.ListN.{length, take, drop, set, getD, replicate, length-set, length-take, length-drop}
+use mathlib.Core.List.{List, [], _∷_, _++_}
+use Rattle.words.proofs.Choices.{first, rest, taken, passed, and-fails, and-holds}
+use Rattle.words.specs.Bytes.{byte, over, same}
+use Rattle.memory.specs.Pages.{pageWrite}
+use Rattle.memory.proofs.PageLaws.{page-stores}
+use Rattle.memory.proofs.write_pages.Statement.{statement}
+use Rattle.memory.proofs.write_pages.Tie as tie
+use Rattle.memory.proofs.write_pages.Reads as reads
+use Rattle.memory.proofs.write_pages.Lts as lts
+use Rattle.memory.proofs.store.Reads as store-reads
+use Rattle.memory.proofs.write_round.Reads as write-round-reads
+
+rem-if1 : tie.Need-rem-if1
+rem-if1 c = search needs
+
+store-requires : tie.Need-store-requires
+store-requires c κs = search needs
+
+same-length : tie.Need-same-length
+same-length c = search needs
+
+returns : tie.Need-returns
+returns c = c .before .before .store .ensures ∙ sym (page-stores (c .before .before .before .before .before .before .before .args .reader) (c .before .before .before .before .before .before .before .args .chip) (omega arith) (omega arith) (c .before .before .before .before .if1 .taken) (c .before .before .before .before .before .before .before .args .image .now) (c .before .before .before .before .before .before .before .args .at) (c .before .before .before .before .before .before .before .args .«data» .now))
+
+write-round-requires : tie.Need-write-round-requires
+write-round-requires c κs = search needs
+
+same-length-2 : tie.Need-same-length-2
+same-length-2 c = search needs
+
+returns-2 : tie.Need-returns-2
+returns-2 c = search needs
+
+pub write-pages-spec : {M : Type 1} → statement M
+write-pages-spec =
+    tie.close
+    (tie.spec
+    rem-if1
+    store-requires
+    same-length
+    returns
+    write-round-requires
+    same-length-2
+    returns-2)
