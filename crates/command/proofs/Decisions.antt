@@ -68,7 +68,7 @@ Fit f b (Order.Read at n) = (at + n ≤ f .memory) × (1 ≤ n)
 Fit f b (Order.Counter n) = (f .coded ≡ true) × (n ≡ f .digits + 1)
 Fit f b (Order.Bits at n) = (at + 8 * n ≤ f .covered) × (n ≤ 32)
 Fit f b (Order.Write at) = (at + length b ≤ f .memory) × (1 ≤ length b) × ((at + length b ≤ f .counter) ⊎ (f .counter < at))
-Fit f b (Order.Protect at) = at + length b ≤ f .reach
+Fit f b (Order.Protect at) = (at + length b ≤ f .reach) × (1 ≤ length b)
 Fit f b Order.Present = (f .coded ≡ true) × (length b ≡ f .digits)
 Fit f b Order.Change = (f .coded ≡ true) × (length b ≡ f .digits)
 
@@ -104,7 +104,7 @@ module _ (f : Facts) (s : Slot) (image d : List ℕ) where
   fit-passed Write p =
       let e : length (body d) ≡ p3 d = body-length d (p3 d) (p .long) in
       rw e (leb-true _ _ (and-true _ _ (p .placed) .0), leb-true _ _ (p .measured), apart (place d) (p3 d) (and-true _ _ (p .placed) .1))
-  fit-passed Protect p = let e : length (body d) ≡ p3 d = body-length d (p3 d) (p .long) in rw e (leb-true _ _ (p .placed))
+  fit-passed Protect p = let e : length (body d) ≡ p3 d = body-length d (p3 d) (p .long) in rw e (leb-true _ _ (p .placed), leb-true _ _ (p .measured))
   fit-passed Present p = (p .had, body-length d (p3 d) (p .long) ∙ eqb-true _ _ (p .measured))
   fit-passed Change p = (and-true _ _ (p .had) .0, body-length d (p3 d) (p .long) ∙ eqb-true _ _ (p .measured))
   fit-passed Other p = tt

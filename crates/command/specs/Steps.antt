@@ -196,23 +196,23 @@ ordered Present at n v = Order.Present
 ordered Change at n v = Order.Change
 ordered Other at n v = Order.Refuse Status.Instruction
 
--- steps 3 to 10, INS being i
-unfoldable pub steps : Facts → Slot → List ℕ → List ℕ → Ins → Order
-steps f s image d i =
+-- steps 3 to 10, INS being i: n is the data length, at is P1P2, p is P3 and v the byte after it
+unfoldable pub steps : Facts → Slot → List ℕ → ℕ → ℕ → ℕ → ℕ → Ins → Order
+steps f s image n at p v i =
     not (known i) ⇒ Order.Refuse Status.Instruction
     ⁏ needsType i and s .selected is 0 ⇒ Order.Refuse Status.Unselected
     ⁏ not (has f i) ⇒ Order.Refuse Status.Instruction
-    ⁏ length d isnt (5 + following i (p3 d)) ⇒ Order.Refuse Status.Length
-    ⁏ not (lengthFits f i (p3 d)) ⇒ Order.Refuse Status.Length
-    ⁏ not (placeFits f i (place d) (p3 d)) ⇒ Order.Refuse Status.Place
-    ⁏ not (valueFits f i (byte d 5)) ⇒ Order.Refuse Status.Value
+    ⁏ n isnt (5 + following i p) ⇒ Order.Refuse Status.Length
+    ⁏ not (lengthFits f i p) ⇒ Order.Refuse Status.Length
+    ⁏ not (placeFits f i at p) ⇒ Order.Refuse Status.Place
+    ⁏ not (valueFits f i v) ⇒ Order.Refuse Status.Value
     ⁏ needsOpen i and f .coded and not (s .«open») ⇒ Order.Refuse Status.Denied
-    ⁏ hitsProtected f i image (place d) (p3 d) ⇒ Order.Refuse Status.Denied
-    ⁏ ordered i (place d) (p3 d) (byte d 5)
+    ⁏ hitsProtected f i image at p ⇒ Order.Refuse Status.Denied
+    ⁏ ordered i at p v
 
 -- all ten: "n below 5: 67 00", "first byte not FFh: 6E 00", and the rest
 unfoldable pub order : Facts → Slot → List ℕ → List ℕ → Order
 order f s image d =
     ltb (length d) 5 ⇒ Order.Refuse Status.Length
     ⁏ byte d 0 isnt 0xFF ⇒ Order.Refuse Status.Class
-    ⁏ steps f s image d (insOf (byte d 1))
+    ⁏ steps f s image (length d) (place d) (p3 d) (byte d 5) (insOf (byte d 1))

@@ -30,6 +30,10 @@ pub taken : {A : Type 0} {b : Bool} {x : A} (y : A) → b ≡ true → x ≡ (b 
 unfolding _⇒_⁏_
 taken {A} {b} {x} y e = subst⁻¹ (λ (t : Bool). x ≡ (t ⇒ x ⁏ y)) e refl
 
+pub met : {A : Type 0} {b : Bool} {x : A} (y : A) {z : A} → b ≡ true → z ≡ x → z ≡ (b ⇒ x ⁏ y)
+unfolding _⇒_⁏_
+met {A} {b} {x} y {z} e h = subst⁻¹ (λ (t : Bool). z ≡ (t ⇒ x ⁏ y)) e h
+
 pub passed : {A : Type 0} {b : Bool} (x : A) {y z : A} → b ≡ false → z ≡ y → z ≡ (b ⇒ x ⁏ y)
 unfolding _⇒_⁏_
 passed {A} {b} x {y} {z} e h = subst⁻¹ (λ (t : Bool). z ≡ (t ⇒ x ⁏ y)) e h
