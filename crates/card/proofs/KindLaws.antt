@@ -56,21 +56,20 @@ coded Chip.I2c64 e = absurd (false≢true e)
 coded Chip.I2c128 e = absurd (false≢true e)
 coded Chip.I2c256 e = absurd (false≢true e)
 
--- how an I2C card is laid out: it is memory alone, in whole chip pages
-pub record Plain (f : Facts) : Type 0 where
-  pub paged : 0 < f .page
+-- how a card with pages is laid out: its image is whole chip pages
+pub record Paged (f : Facts) : Type 0 where
   pub whole : f .size % f .page ≡ 0
-  pub alone : f .memory ≡ f .size
+  pub modest : f .page < 65536
 
-pub plain : (chip : Chip) → facts chip .coded ≡ false → Plain (facts chip)
-plain Chip.Sle4428 e = absurd (false≢true (cc))
-plain Chip.Sle4442 e = absurd (false≢true (cc))
-plain Chip.I2c1 e = record { paged = omega arith; whole = refl; alone = refl }
-plain Chip.I2c2 e = record { paged = omega arith; whole = refl; alone = refl }
-plain Chip.I2c4 e = record { paged = omega arith; whole = refl; alone = refl }
-plain Chip.I2c8 e = record { paged = omega arith; whole = refl; alone = refl }
-plain Chip.I2c16 e = record { paged = omega arith; whole = refl; alone = refl }
-plain Chip.I2c32 e = record { paged = omega arith; whole = refl; alone = refl }
-plain Chip.I2c64 e = record { paged = omega arith; whole = refl; alone = refl }
-plain Chip.I2c128 e = record { paged = omega arith; whole = refl; alone = refl }
-plain Chip.I2c256 e = record { paged = omega arith; whole = refl; alone = refl }
+pub paged : (chip : Chip) → 0 < facts chip .page → Paged (facts chip)
+paged Chip.I2c1 h = record { whole = refl; modest = omega arith }
+paged Chip.I2c2 h = record { whole = refl; modest = omega arith }
+paged Chip.I2c4 h = record { whole = refl; modest = omega arith }
+paged Chip.I2c8 h = record { whole = refl; modest = omega arith }
+paged Chip.I2c16 h = record { whole = refl; modest = omega arith }
+paged Chip.I2c32 h = record { whole = refl; modest = omega arith }
+paged Chip.I2c64 h = record { whole = refl; modest = omega arith }
+paged Chip.I2c128 h = record { whole = refl; modest = omega arith }
+paged Chip.I2c256 h = record { whole = refl; modest = omega arith }
+paged Chip.Sle4428 h = absurd (omega arith)
+paged Chip.Sle4442 h = absurd (omega arith)

@@ -1,3 +1,5 @@
 pub mod CounterLaws
 pub mod ProtectionLaws
+pub mod BitLaws
 pub mod KindLaws
+pub mod ImageLaws

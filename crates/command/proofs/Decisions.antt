@@ -1,20 +1,21 @@
 -- The decision taken apart once: an order refuses, or every step let the command through; and what an order that is let through may count on.
 use Prim.Native.Nat.{ℕ, _+_, _*_, _^_, _≤_, _<_}
-use mathlib.Core.Path.{_≡_, refl, sym, _∙_, subst}
+use mathlib.Core.Path.{_≡_, sym, ap, _∙_}
 use mathlib.Core.List.{List}
 use mathlib.Core.Bool.{Bool, true, false, not, false≢true}
 use mathlib.Core.Logic.{_⊎_, inl, inr}
 use native.Mathlib.Omega.{arith}
 use lib.ListN.{length, length-drop}
 use lib.Dec.{leb, ltb}
-use borrow.Author.Tests.{eqb-true, leb-true, ltb-true, not-true, not-false}
+use borrow.Author.Tests.{eqb-true, eq-eqb, leb-true, ltb-true, le-ltb, not-false}
 use Rattle.words.specs.Choice.{_⇒_⁏_, _and_, _or_, _is_}
 use Rattle.words.specs.Bytes.{byte}
-use Rattle.words.proofs.Choices.{past, either, and-true, or-true}
+use Rattle.words.proofs.Choices.{past, either, rest, and-true, or-true}
 use Rattle.card.specs.Kinds.{Facts}
 use Rattle.slot.specs.declared.Slot.{Slot}
 use Rattle.command.specs.declared.Status.{Status}
 use Rattle.command.specs.declared.Order.{Order}
+use Rattle.command.specs.Fits.{Fit, Short}
 use Rattle.command.specs.Steps.{Ins, Select, Page, Read, Counter, Bits, Write, Protect, Present, Change, Other, insOf, place, p3, body, known, needsType, has, following, lengthFits, placeFits, valueFits, needsOpen, hitsProtected, ordered, steps, order}
 
 -- every step passed
@@ -59,19 +60,6 @@ decided f s image d =
       free = e10;
     }))))))))))))
 
--- What an order that is let through may count on, with the data b after P3.
-abbrev pub Fit : Facts → List ℕ → Order → Type 0
-Fit f b (Order.Refuse status) = Unit {0}
-Fit f b Order.Select = Unit {0}
-Fit f b (Order.Page p) = (8 ≤ p) × (p ≤ 128)
-Fit f b (Order.Read at n) = (at + n ≤ f .memory) × (1 ≤ n)
-Fit f b (Order.Counter n) = (f .coded ≡ true) × (n ≡ f .digits + 1)
-Fit f b (Order.Bits at n) = (at + 8 * n ≤ f .covered) × (n ≤ 32)
-Fit f b (Order.Write at) = (at + length b ≤ f .memory) × (1 ≤ length b) × ((at + length b ≤ f .counter) ⊎ (f .counter < at))
-Fit f b (Order.Protect at) = (at + length b ≤ f .reach) × (1 ≤ length b)
-Fit f b Order.Present = (f .coded ≡ true) × (length b ≡ f .digits)
-Fit f b Order.Change = (f .coded ≡ true) × (length b ≡ f .digits)
-
 body-length : (d : List ℕ) (n : ℕ) → length d ≡ 5 + n → length (body d) ≡ n
 body-length d n e = omega (arith, length-drop 5 d)
 
@@ -109,10 +97,46 @@ module _ (f : Facts) (s : Slot) (image d : List ℕ) where
   fit-passed Change p = (and-true _ _ (p .had) .0, body-length d (p3 d) (p .long) ∙ eqb-true _ _ (p .measured))
   fit-passed Other p = tt
 
-  fit-decided : {o : Order} → Decided f s image d o → Fit f (body d) o
+  pub fit-decided : {o : Order} → Decided f s image d o → Fit f (body d) o
   fit-decided (refused status) = tt
   fit-decided (through i p) = fit-passed i p
 
   -- every order fits
   pub order-fits : Fit f (body d) (order f s image d)
   order-fits = fit-decided (decided f s image d)
+
+  short-passed : p3 d < 256 → (i : Ins) → Short (ordered i (place d) (p3 d) (byte d 5))
+  short-passed h Select = tt
+  short-passed h Page = tt
+  short-passed h Read = h
+  short-passed h Counter = tt
+  short-passed h Bits = tt
+  short-passed h Write = tt
+  short-passed h Protect = tt
+  short-passed h Present = tt
+  short-passed h Change = tt
+  short-passed h Other = tt
+
+  short-decided : p3 d < 256 → {o : Order} → Decided f s image d o → Short o
+  short-decided h (refused status) = tt
+  short-decided h (through i p) = short-passed h i
+
+  -- and is short, P3 being a byte
+  pub order-short : p3 d < 256 → Short (order f s image d)
+  order-short h = short-decided h (decided f s image d)
+
+-- past the first two steps the rest decide
+pub order-on : (f : Facts) (s : Slot) (image d : List ℕ) → 5 ≤ length d → byte d 0 ≡ 0xFF
+    → order f s image d ≡ steps f s image (length d) (place d) (p3 d) (byte d 5) (insOf (byte d 1))
+unfolding order
+order-on f s image d h e = rest _ _ (le-ltb (length d) 5 h) ∙ rest _ _ (ap not (eq-eqb _ 0xFF e))
+
+-- the numbers of the pseudo-APDU are those that the steps were given
+pub order-at : (f : Facts) (s : Slot) (image d : List ℕ) (at p v : ℕ) (i : Ins) {r : Order} → 5 ≤ length d → byte d 0 ≡ 0xFF
+    → at ≡ place d → p ≡ p3 d → v ≡ byte d 5 → insOf (byte d 1) ≡ i → r ≡ steps f s image (length d) at p v i → r ≡ order f s image d
+order-at f s image d at p v i {r} h e a b c k q =
+    q ∙ ap (λ (n : ℕ). steps f s image (length d) n p v i) a
+    ∙ ap (λ (n : ℕ). steps f s image (length d) (place d) n v i) b
+    ∙ ap (λ (n : ℕ). steps f s image (length d) (place d) (p3 d) n i) c
+    ∙ ap (steps f s image (length d) (place d) (p3 d) (byte d 5)) (sym k)
+    ∙ sym (order-on f s image d h e)

@@ -1,1 +1,5 @@
 pub mod Decisions
+pub mod Tells
+pub mod ImageKept
+pub mod SlotKept
+pub mod PresentAgain

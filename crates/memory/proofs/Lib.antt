@@ -1,3 +1,4 @@
 pub mod ReadLaws
 pub mod PageLaws
 pub mod PackLaws
+pub mod CodeLaws

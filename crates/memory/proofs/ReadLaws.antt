@@ -12,8 +12,10 @@ use lib.Seq.{sets, length-sets, length-take-le, set-append-left, take-set-le, ta
 use borrow.Author.Tests.{le-leb, lt-leb, lt-ltb, le-ltb}
 use Rattle.words.specs.Choice.{_⇒_⁏_}
 use Rattle.words.specs.Bytes.{over}
-use Rattle.words.proofs.Choices.{first, rest}
-use Rattle.words.proofs.Lists.{sets-snoc}
+use Rattle.words.proofs.Choices.{either, first, rest}
+use Rattle.words.proofs.Lists.{length-run, sets-snoc}
+use Rattle.card.specs.Protection.{packedBytes}
+use Rattle.memory.specs.Reads.{visible, bytesRead, counterRead}
 use Rattle.memory.specs.Inner.{blankOne, blanked}
 
 -- ---- one byte
@@ -95,3 +97,20 @@ blank-code at n code (suc d) image out h r =
     ap (blankOne at (at + n) (code + d)) (blank-code at n code d image out h r)
     ∙ blank-window at n (sets image code (replicate d 0)) out (omega (arith, length-sets image code (replicate d 0))) r (code + d)
     ∙ ap (λ (l : List ℕ). over (take n (drop at l)) out) (sym (sets-zeros image code d))
+
+-- ---- how long what is read is
+pub length-bytesRead : (code digits : ℕ) (o : Bool) (image : List ℕ) (at n : ℕ) → at + n ≤ length image → length (bytesRead code digits o image at n) ≡ n
+unfolding bytesRead visible
+length-bytesRead code digits o image at n h =
+    either (λ (im : List ℕ). length (take n (drop at im)) ≡ n) o
+    (λ _. length-take-le n (drop at image) (omega (arith, length-drop at image)))
+    (λ _. let z : List ℕ = sets image code (replicate digits 0) in
+      length-take-le n (drop at z) (omega (arith, length-drop at z, length-sets image code (replicate digits 0))))
+
+pub length-counterRead : (counter : ℕ) (image : List ℕ) (n : ℕ) → 1 ≤ n → length (counterRead counter image n) ≡ n
+unfolding counterRead
+length-counterRead counter image n h = omega (arith, length-replicate {A = ℕ} (n - 1) 0)
+
+pub length-packedBytes : (bits covered : ℕ) (image : List ℕ) (at n : ℕ) → length (packedBytes bits covered image at n) ≡ n
+unfolding packedBytes
+length-packedBytes bits covered image at n = length-run _ 0 n

@@ -1,1 +1,13 @@
 pub mod Starred
+pub mod Came
+pub mod Kept
+pub mod RunLaws
+pub mod Accounts
+pub mod Reached
+pub mod Inserted
+pub mod Tries
+pub mod Zero
+pub mod Told
+pub mod Costs
+pub mod Visits
+pub mod Only

@@ -2,22 +2,27 @@
 --
 -- "For a code card just inserted and left in, after any run of messages, tries left are those it came with, or all of them since the
 -- last right code that met a try, less the wrong codes since, stopping at zero. From zero no message changes a byte of that card."
-use Prim.Native.Nat.{ℕ, suc, _+_, _-_}
+use mathlib.Core.Path.{_≡_}
+use Prim.Native.Nat.{ℕ, suc, _-_}
 use mathlib.Core.Bool.{Bool, true, false}
 use mathlib.Core.List.{List, [], _∷_, _++_}
 use lib.ListN.{length}
 use lib.Dec.{leb}
-use Rattle.words.specs.Choice.{_⇒_⁏_, _and_, _is_}
-use Rattle.words.specs.Bytes.{same}
-use Rattle.card.specs.Kinds.{Facts}
+use Rattle.words.specs.Choice.{_⇒_⁏_, _and_, _or_, _is_, _isnt_}
+use Rattle.words.specs.Bytes.{byte, same}
+use Rattle.card.specs.declared.Chip.{Chip}
+use Rattle.card.specs.declared.Known.the-variants.{Is}
+use Rattle.card.specs.Kinds.{Facts, facts, chipOf}
+use Rattle.card.specs.Counters.{tries}
 use Rattle.slot.specs.declared.Slot.{Slot}
 use Rattle.slot.specs.Slots.{imageIsCard, sound}
 use Rattle.memory.specs.Codes.{codeIn}
 use Rattle.command.specs.declared.Order.{Order}
 use Rattle.command.specs.Steps.{order, body}
+use Rattle.reader.specs.declared.Fault.{Fault}
 use Rattle.reader.specs.Messages.{Request, PowerOn, PowerOff, SlotStatus, Transfer, Unsupported, typeByte, apdu, requestOf, faultOf, isClear}
-use Rattle.reader.specs.Exchange.{exchange}
-use Rattle.reader.specs.Runs.{Sent, sending}
+use Rattle.reader.specs.Exchange.{insertion}
+use Rattle.reader.specs.Runs.{Sent, Run, sending, run}
 
 -- ---- the history
 -- What a message was to the card: no code reached it, or a code did, and was wrong or right for the code that the card held then.
@@ -26,6 +31,13 @@ pub data Event : Type 0 where
   wrong : Event
   right : Event
 
+-- what the message asks for, and what is wrong with it
+abbrev pub requested : Sent → Request
+requested m = requestOf (typeByte (m .message))
+
+abbrev pub faulted : Slot → Sent → Fault
+faulted s m = faultOf (requested m) s (m .message)
+
 -- the message is answered (tests 1 to 4), and has no fault
 unfoldable pub heard : Slot → List ℕ → Sent → Bool
 heard s image m =
@@ -33,7 +45,7 @@ heard s image m =
     and leb 10 (length (m .message))
     and imageIsCard (s .holds) image
     and sound s image
-    and isClear (faultOf (requestOf (typeByte (m .message))) s (m .message))
+    and isClear (faulted s m)
 
 -- it is a transfer
 abbrev pub transfers : Request → Bool
@@ -60,7 +72,7 @@ presents Order.Change = false
 unfoldable pub reached : Facts → Slot → List ℕ → Sent → Bool
 reached f s image m =
     heard s image m
-    and transfers (requestOf (typeByte (m .message)))
+    and transfers (requested m)
     and presents (order f s image (apdu (m .message)))
 
 -- the code that the message carries is the one that the card holds
@@ -122,3 +134,28 @@ cameWith t = record { counted = t; since = [] }
 -- the tries that a history leaves of those the card came with
 unfoldable pub triesLeft : ℕ → ℕ → List Event → ℕ
 triesLeft full t es = left (account full (cameWith t) es)
+
+-- some right code of a history that starts with t tries met a try
+unfoldable pub renewed : ℕ → List Event → Bool
+renewed t [] = false
+renewed t (none ∷ es) = renewed t es
+renewed t (wrong ∷ es) = renewed (t - 1) es
+renewed t (right ∷ es) = t isnt 0 or renewed t es
+
+-- ---- the card in the slot
+-- "Tries left are the one bits of the counter", in the image of a card
+abbrev pub triesIn : Facts → List ℕ → ℕ
+triesIn f image = tries (byte image (f .counter))
+
+-- "a code card just inserted": the slot was lent this kind and this image, and the insertion was accepted
+pub record PutIn (chip : Chip) (s : Slot) (kind : ℕ) (image : List ℕ) : Type 0 where
+  pub coded : facts chip .coded ≡ true
+  pub known : chipOf kind ≡ Is chip
+  pub accepted : insertion s kind image .number ≡ 0
+
+-- "and left in, after any run of messages": what the run leaves, and its history
+abbrev pub runFrom : Slot → ℕ → List ℕ → List Sent → Run
+runFrom s kind image ms = run (insertion s kind image .slot) (insertion s kind image .image) ms
+
+abbrev pub historyFrom : Chip → Slot → ℕ → List ℕ → List Sent → List Event
+historyFrom chip s kind image ms = history (facts chip) (insertion s kind image .slot) (insertion s kind image .image) ms

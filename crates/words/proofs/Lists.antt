@@ -56,6 +56,11 @@ over-two b d n x y e h =
     ∙ over-snoc (b ++ (x ∷ [])) d y (n + 1) (length-append b (x ∷ []) ∙ ap (λ (m : ℕ). m + 1) e) (omega arith)
     ∙ ap (λ (t : List ℕ). over t d) (append-assoc b (x ∷ []) (y ∷ []))
 
+-- two bytes on their own
+pub over-pair : (d : List ℕ) (x y : ℕ) → 2 ≤ length d → set (set d 0 x) (0 + 1) y ≡ over (x ∷ y ∷ []) d
+unfolding over
+over-pair d x y h = over-two [] d 0 x y refl (omega arith)
+
 -- a header over the front of a whole whose tail was filled first
 pub over-head : (k : ℕ) (h b a : List ℕ) → length h ≡ k → k ≤ length a → over h (take k a ++ over b (drop k a)) ≡ over (h ++ b) a
 unfolding over

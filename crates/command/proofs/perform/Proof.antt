@@ -1,0 +1,255 @@
+-- `perform` meets its contract: each arm is its order.
+use borrow.Author.Needs.{needs}
+use mathlib.Core.Path.{_≡_, refl, sym, ap, ap₂, _∙_, subst}
+use mathlib.Core.Bool.{Bool, true, false, not}
+use native.Mathlib.Omega.{arith}
+use Prim.Native.Nat.{ℕ, _+_, _-_, _*_, _/_, _%_, _^_, _≤_, _<_}
+use borrow.Author.Tests.{eq-eqb, ne-eqb, le-leb, lt-leb, lt-ltb, le-ltb, not-true, not-false}
+use lib.ListN.{length, take, drop, set, getD, replicate, length-set, length-take, length-drop, length-append}
+use mathlib.Core.List.{List, [], _∷_, _++_}
+use Rattle.words.proofs.Choices.{first, rest, taken, met, passed, and-fails, and-holds, or-taken, or-passed}
+use Rattle.words.specs.Choice.{_⇒_⁏_, _and_, _or_, _is_, _isnt_}
+use Rattle.words.specs.Bytes.{byte, over, same}
+use Rattle.words.proofs.Lists.{over-pair, over-two}
+use Rattle.card.specs.Kinds.{facts}
+use Rattle.card.proofs.KindLaws.{laid, coded, Paged, paged}
+use Rattle.command.specs.Steps.{steps, wordOf, insOf, order, Other}
+use Rattle.command.specs.Orders.{done, written, afterCode, rightCode, saidBy, imageBy, slotBy, performed}
+use Rattle.command.proofs.Tells.{over-done}
+use Rattle.slot.specs.Slots.{selecting, opened, closed}
+use Rattle.slot.specs.declared.Slot.{Slot}
+use Rattle.command.specs.Fits.{Fit, Short}
+use Rattle.command.specs.declared.Order.{Order}
+use Rattle.command.specs.Orders.{commanded, Does}
+use Rattle.command.specs.Steps.{body, p3}
+use Rattle.command.proofs.Tells.{does-by}
+use Rattle.command.proofs.Decisions.{order-fits, order-short}
+use Rattle.words.proofs.Lists.{tail-is}
+use mathlib.Core.Path.{subst⁻¹}
+use Rattle.command.proofs.perform.Statement.{statement}
+use Rattle.command.proofs.perform.Tie as tie
+use Rattle.command.proofs.perform.Reads as reads
+use Rattle.command.proofs.perform.Lts as lts
+use Rattle.command.proofs.change.Reads as change-reads
+use Rattle.command.proofs.present.Reads as present-reads
+use Rattle.command.proofs.protect.Reads as protect-reads
+use Rattle.command.proofs.read.Reads as read-reads
+use Rattle.command.proofs.read_bits.Reads as read-bits-reads
+use Rattle.command.proofs.read_counter.Reads as read-counter-reads
+use Rattle.command.proofs.refuse.Reads as refuse-reads
+use Rattle.command.proofs.select.Reads as select-reads
+use Rattle.command.proofs.set_page.Reads as set-page-reads
+use Rattle.command.proofs.write.Reads as write-reads
+
+enum-known-order : tie.Need-enum-known-order
+enum-known-order c = search needs
+
+refuse-requires : tie.Need-refuse-requires
+refuse-requires c κs = search needs
+
+enum-told : tie.Need-enum-told
+enum-told c = search needs
+
+select-requires : tie.Need-select-requires
+select-requires c κs = search needs
+
+enum-known-order-2 : tie.Need-enum-known-order-2
+enum-known-order-2 c = search needs
+
+set-page-requires : tie.Need-set-page-requires
+set-page-requires c κs = search needs
+
+enum-known-order-3 : tie.Need-enum-known-order-3
+enum-known-order-3 c = search needs
+
+read-requires : tie.Need-read-requires
+read-requires c κs = (omega arith, omega (arith, c .before .before .before .before .before .before .before .before .pre .1, laid (c .before .before .before .before .before .before .before .before .args .chip) .front, subst (λ (o : Order). Fit (facts (c .before .before .before .before .before .before .before .before .args .chip)) (c .before .before .before .before .before .before .before .before .args .«data» .now) o) (c .before .before .before .order3 .given .1) (c .before .before .before .before .before .before .before .before .pre .3) .0), omega (arith, subst Short (c .before .before .before .order3 .given .1) (c .before .before .before .before .before .before .before .before .pre .4)))
+
+enum-known-order-4 : tie.Need-enum-known-order-4
+enum-known-order-4 c = search needs
+
+read-counter-requires : tie.Need-read-counter-requires
+read-counter-requires c κs = (omega arith, omega (arith, c .before .before .before .before .before .before .before .before .pre .1, coded (c .before .before .before .before .before .before .before .before .args .chip) (subst (λ (o : Order). Fit (facts (c .before .before .before .before .before .before .before .before .args .chip)) (c .before .before .before .before .before .before .before .before .args .«data» .now) o) (c .before .before .before .order4 .given .1) (c .before .before .before .before .before .before .before .before .pre .3) .0) .inside), omega (arith, subst (λ (o : Order). Fit (facts (c .before .before .before .before .before .before .before .before .args .chip)) (c .before .before .before .before .before .before .before .before .args .«data» .now) o) (c .before .before .before .order4 .given .1) (c .before .before .before .before .before .before .before .before .pre .3) .1), omega (arith, subst (λ (o : Order). Fit (facts (c .before .before .before .before .before .before .before .before .args .chip)) (c .before .before .before .before .before .before .before .before .args .«data» .now) o) (c .before .before .before .order4 .given .1) (c .before .before .before .before .before .before .before .before .pre .3) .1, laid (c .before .before .before .before .before .before .before .before .args .chip) .digits))
+
+enum-known-order-5 : tie.Need-enum-known-order-5
+enum-known-order-5 c = search needs
+
+read-bits-requires : tie.Need-read-bits-requires
+read-bits-requires c κs = (omega arith, subst (λ (o : Order). Fit (facts (c .before .before .before .before .before .before .before .before .args .chip)) (c .before .before .before .before .before .before .before .before .args .«data» .now) o) (c .before .before .before .order5 .given .1) (c .before .before .before .before .before .before .before .before .pre .3) .0, subst (λ (o : Order). Fit (facts (c .before .before .before .before .before .before .before .before .args .chip)) (c .before .before .before .before .before .before .before .before .args .«data» .now) o) (c .before .before .before .order5 .given .1) (c .before .before .before .before .before .before .before .before .pre .3) .1)
+
+enum-known-order-6 : tie.Need-enum-known-order-6
+enum-known-order-6 c = search needs
+
+write-requires : tie.Need-write-requires
+write-requires c κs = (omega arith, c .before .before .before .before .before .before .before .before .pre .1, subst (λ (o : Order). Fit (facts (c .before .before .before .before .before .before .before .before .args .chip)) (c .before .before .before .before .before .before .before .before .args .«data» .now) o) (c .before .before .before .order6 .given .1) (c .before .before .before .before .before .before .before .before .pre .3) .0, c .before .before .before .before .before .before .before .before .pre .2)
+
+enum-known-order-7 : tie.Need-enum-known-order-7
+enum-known-order-7 c = search needs
+
+protect-requires : tie.Need-protect-requires
+protect-requires c κs = (omega arith, c .before .before .before .before .before .before .before .before .pre .1, subst (λ (o : Order). Fit (facts (c .before .before .before .before .before .before .before .before .args .chip)) (c .before .before .before .before .before .before .before .before .args .«data» .now) o) (c .before .before .before .order7 .given .1) (c .before .before .before .before .before .before .before .before .pre .3) .0)
+
+enum-told-2 : tie.Need-enum-told-2
+enum-told-2 c = search needs
+
+present-requires : tie.Need-present-requires
+present-requires c κs = (omega arith, c .before .before .before .before .before .before .before .pre .1, subst (λ (o : Order). Fit (facts (c .before .before .before .before .before .before .before .args .chip)) (c .before .before .before .before .before .before .before .args .«data» .now) o) (c .before .before .enum-told2 .given .1) (c .before .before .before .before .before .before .before .pre .3) .0, subst (λ (o : Order). Fit (facts (c .before .before .before .before .before .before .before .args .chip)) (c .before .before .before .before .before .before .before .args .«data» .now) o) (c .before .before .enum-told2 .given .1) (c .before .before .before .before .before .before .before .pre .3) .1)
+
+enum-told-3 : tie.Need-enum-told-3
+enum-told-3 c = search needs
+
+change-requires : tie.Need-change-requires
+change-requires c κs = (omega arith, c .before .before .before .before .before .before .before .pre .1, subst (λ (o : Order). Fit (facts (c .before .before .before .before .before .before .before .args .chip)) (c .before .before .before .before .before .before .before .args .«data» .now) o) (c .before .before .enum-told3 .given .1) (c .before .before .before .before .before .before .before .pre .3) .1)
+
+same-length : tie.Need-same-length
+same-length c = search needs
+
+returns : tie.Need-returns
+returns c =
+    let a = c .before .before .before .before .before .before .before .before .before .before .args in
+    does-by (facts (a .chip)) (a .slot) (a .image .now) (a .«data» .now) (c .before .before .before .before .before .order .given .1) (c .before .before .refuse .ensures (facts (a .chip)) (a .image .now) (a .«data» .now))
+
+same-length-2 : tie.Need-same-length-2
+same-length-2 c = search needs
+
+returns-2 : tie.Need-returns-2
+returns-2 c =
+    let a = c .before .before .before .before .before .before .before .before .before .args in
+    does-by (facts (a .chip)) (a .slot) (a .image .now) (a .«data» .now) (c .before .before .before .before .enum-told .given .1) (c .before .before .select .ensures (a .image .now) (a .«data» .now))
+
+same-length-3 : tie.Need-same-length-3
+same-length-3 c = search needs
+
+returns-3 : tie.Need-returns-3
+returns-3 c =
+    let a = c .before .before .before .before .before .before .before .before .before .before .args in
+    does-by (facts (a .chip)) (a .slot) (a .image .now) (a .«data» .now) (c .before .before .before .before .before .order2 .given .1) (c .before .before .set-page .ensures (facts (a .chip)) (a .image .now) (a .«data» .now))
+
+same-length-4 : tie.Need-same-length-4
+same-length-4 c = search needs
+
+same-length-5 : tie.Need-same-length-5
+same-length-5 c = search needs
+
+returns-4 : tie.Need-returns-4
+returns-4 c =
+    let a = c .before .before .before .before .before .before .before .before .before .before .before .args in
+    does-by (facts (a .chip)) (a .slot) (a .image .now) (a .«data» .now) (c .before .before .before .before .before .before .order3 .given .1) (c .before .before .read .ensures (a .«data» .now))
+
+same-length-6 : tie.Need-same-length-6
+same-length-6 c = search needs
+
+same-length-7 : tie.Need-same-length-7
+same-length-7 c = search needs
+
+returns-5 : tie.Need-returns-5
+returns-5 c =
+    let a = c .before .before .before .before .before .before .before .before .before .before .before .args in
+    does-by (facts (a .chip)) (a .slot) (a .image .now) (a .«data» .now) (c .before .before .before .before .before .before .order4 .given .1) (c .before .before .read-counter .ensures (a .«data» .now))
+
+same-length-8 : tie.Need-same-length-8
+same-length-8 c = search needs
+
+same-length-9 : tie.Need-same-length-9
+same-length-9 c = search needs
+
+returns-6 : tie.Need-returns-6
+returns-6 c =
+    let a = c .before .before .before .before .before .before .before .before .before .before .before .args in
+    does-by (facts (a .chip)) (a .slot) (a .image .now) (a .«data» .now) (c .before .before .before .before .before .before .order5 .given .1) (c .before .before .read-bits .ensures (a .«data» .now))
+
+same-length-10 : tie.Need-same-length-10
+same-length-10 c = search needs
+
+same-length-11 : tie.Need-same-length-11
+same-length-11 c = search needs
+
+returns-7 : tie.Need-returns-7
+returns-7 c =
+    let a = c .before .before .before .before .before .before .before .before .before .before .before .before .before .args in
+    does-by (facts (a .chip)) (a .slot) (a .image .now) (a .«data» .now) (c .before .before .before .before .before .before .before .before .order6 .given .1) (c .before .before .before .before .write .ensures)
+
+same-length-12 : tie.Need-same-length-12
+same-length-12 c = search needs
+
+same-length-13 : tie.Need-same-length-13
+same-length-13 c = search needs
+
+returns-8 : tie.Need-returns-8
+returns-8 c =
+    let a = c .before .before .before .before .before .before .before .before .before .before .before .before .before .args in
+    does-by (facts (a .chip)) (a .slot) (a .image .now) (a .«data» .now) (c .before .before .before .before .before .before .before .before .order7 .given .1) (c .before .before .before .before .protect .ensures)
+
+same-length-14 : tie.Need-same-length-14
+same-length-14 c = search needs
+
+same-length-15 : tie.Need-same-length-15
+same-length-15 c = search needs
+
+returns-9 : tie.Need-returns-9
+returns-9 c =
+    let a = c .before .before .before .before .before .before .before .before .before .before .before .before .args in
+    does-by (facts (a .chip)) (a .slot) (a .image .now) (a .«data» .now) (c .before .before .before .before .before .before .before .enum-told2 .given .1) (c .before .before .before .before .present .ensures)
+
+same-length-16 : tie.Need-same-length-16
+same-length-16 c = search needs
+
+same-length-17 : tie.Need-same-length-17
+same-length-17 c = search needs
+
+returns-10 : tie.Need-returns-10
+returns-10 c =
+    let a = c .before .before .before .before .before .before .before .before .before .before .before .before .args in
+    does-by (facts (a .chip)) (a .slot) (a .image .now) (a .«data» .now) (c .before .before .before .before .before .before .before .enum-told3 .given .1) (c .before .before .before .before .change .ensures)
+
+pub perform-spec : {M : Type 1} → statement M
+perform-spec =
+    tie.close
+    (tie.spec
+    enum-known-order
+    refuse-requires
+    enum-told
+    select-requires
+    enum-known-order-2
+    set-page-requires
+    enum-known-order-3
+    read-requires
+    enum-known-order-4
+    read-counter-requires
+    enum-known-order-5
+    read-bits-requires
+    enum-known-order-6
+    write-requires
+    enum-known-order-7
+    protect-requires
+    enum-told-2
+    present-requires
+    enum-told-3
+    change-requires
+    same-length
+    returns
+    same-length-2
+    returns-2
+    same-length-3
+    returns-3
+    same-length-4
+    same-length-5
+    returns-4
+    same-length-6
+    same-length-7
+    returns-5
+    same-length-8
+    same-length-9
+    returns-6
+    same-length-10
+    same-length-11
+    returns-7
+    same-length-12
+    same-length-13
+    returns-8
+    same-length-14
+    same-length-15
+    returns-9
+    same-length-16
+    same-length-17
+    returns-10)
