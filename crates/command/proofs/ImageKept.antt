@@ -24,11 +24,11 @@ use Rattle.card.proofs.ImageLaws.{IsCard, Guarded, guarded, plain-card}
 use Rattle.slot.specs.declared.Slot.{Slot}
 use Rattle.memory.proofs.PageLaws.{length-pageWrite}
 use Rattle.memory.proofs.CodeLaws.{presenting-either, length-presenting, byte-presenting, byte-spending, byte-full}
-use Rattle.command.specs.declared.Order.{Order}
-use Rattle.command.specs.Steps.{Ins, Select, Page, Read, Counter, Bits, Write, Protect, Present, Change, Other, place, p3, body, ordered, order}
+use Rattle.steps.specs.declared.Order.{Order}
+use Rattle.steps.specs.Steps.{Ins, Select, Page, Read, Counter, Bits, Write, Protect, Present, Change, Other, place, p3, body, ordered, order}
 use Rattle.command.specs.Orders.{written, imageBy}
-use Rattle.command.proofs.Decisions.{Passed, Decided, refused, through, decided}
-use Rattle.command.specs.Fits.{Fit}
+use Rattle.steps.proofs.Decisions.{Passed, Decided, refused, through, decided}
+use Rattle.steps.specs.Fits.{Fit}
 
 -- an order presents a code, or does not
 pub present-or-not : (o : Order) → (o ≡ Order.Present) ⊎ (o ≢ Order.Present)

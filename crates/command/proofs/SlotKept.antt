@@ -20,11 +20,11 @@ use Rattle.slot.specs.declared.Slot.{Slot}
 use Rattle.slot.specs.Slots.{occupied, ownType, fullCode, pageSize, selecting}
 use Rattle.slot.proofs.SoundLaws.{Sound, image-sound, selecting-sound, paged-sound, opened-sound, closed-sound}
 use Rattle.memory.proofs.CodeLaws.{accepts-full}
-use Rattle.command.specs.declared.Order.{Order}
-use Rattle.command.specs.Steps.{Ins, Select, Page, Read, Counter, Bits, Write, Protect, Present, Change, Other, place, p3, body, ordered, order}
+use Rattle.steps.specs.declared.Order.{Order}
+use Rattle.steps.specs.Steps.{Ins, Select, Page, Read, Counter, Bits, Write, Protect, Present, Change, Other, place, p3, body, ordered, order}
 use Rattle.command.specs.Orders.{afterCode, rightCode, imageBy, slotBy}
-use Rattle.command.proofs.Decisions.{Passed, Decided, refused, through, decided, fit-decided}
-use Rattle.command.specs.Fits.{Fit}
+use Rattle.steps.proofs.Decisions.{Passed, Decided, refused, through, decided, fit-decided}
+use Rattle.steps.specs.Fits.{Fit}
 use Rattle.command.proofs.ImageKept.{counter-kept}
 
 -- the card stays the same card

@@ -7,7 +7,7 @@ use Rattle.words.specs.Bytes.{over}
 use Rattle.words.proofs.Lists.{over-two}
 use Rattle.card.specs.Kinds.{Facts}
 use Rattle.slot.specs.declared.Slot.{Slot}
-use Rattle.command.specs.declared.Order.{Order}
+use Rattle.steps.specs.declared.Order.{Order}
 use Rattle.command.specs.declared.Told.{Told}
 use Rattle.command.specs.Orders.{Does, performed, done}
 

@@ -14,9 +14,9 @@ use Rattle.slot.specs.Slots.{selecting, paged, opened, closed}
 use Rattle.memory.specs.Reads.{bytesRead, counterRead}
 use Rattle.memory.specs.Pages.{pageWrite}
 use Rattle.memory.specs.Codes.{presenting, accepts}
-use Rattle.command.specs.declared.Order.{Order}
+use Rattle.steps.specs.declared.Order.{Order}
 use Rattle.command.specs.declared.Told.{Told}
-use Rattle.command.specs.Steps.{wordOf, order, body}
+use Rattle.steps.specs.Steps.{wordOf, order, body}
 
 -- what a message does to a slot and its image, and the data it answers with
 pub record Deed : Type 0 where

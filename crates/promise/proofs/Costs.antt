@@ -16,11 +16,11 @@ use Rattle.slot.specs.declared.Slot.{Slot}
 use Rattle.slot.specs.Slots.{sound}
 use Rattle.memory.specs.Codes.{codeIn}
 use Rattle.memory.proofs.CodeLaws.{code-presenting}
-use Rattle.command.specs.declared.Status.{Status}
-use Rattle.command.specs.declared.Order.{Order}
-use Rattle.command.specs.Steps.{order, body}
+use Rattle.steps.specs.declared.Status.{Status}
+use Rattle.steps.specs.declared.Order.{Order}
+use Rattle.steps.specs.Steps.{order, body}
 use Rattle.command.specs.Orders.{performed, imageBy, slotBy}
-use Rattle.command.proofs.PresentAgain.{present-again}
+use Rattle.steps.proofs.PresentAgain.{present-again}
 use Rattle.reader.specs.Messages.{Request, Transfer, apdu, ready, faultOf, isClear}
 use Rattle.reader.specs.Exchange.{Outcome}
 use Rattle.reader.specs.Runs.{Sent, sending, run}

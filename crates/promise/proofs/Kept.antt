@@ -17,9 +17,9 @@ use Rattle.slot.specs.declared.Holds.the-variants.{Empty, Card}
 use Rattle.slot.specs.declared.Slot.{Slot}
 use Rattle.slot.specs.Slots.{imageIsCard, sound, removed}
 use Rattle.slot.proofs.SoundLaws.{sound-parts, sound-whole, on-sound, off-sound, inserted-sound, removed-sound}
-use Rattle.command.specs.Steps.{order, body}
+use Rattle.steps.specs.Steps.{order, body}
 use Rattle.command.specs.Orders.{performed, commanded, imageBy, slotBy}
-use Rattle.command.proofs.Decisions.{order-fits}
+use Rattle.steps.proofs.Decisions.{order-fits}
 use Rattle.command.proofs.ImageKept.{card-kept}
 use Rattle.command.proofs.SlotKept.{slotBy-holds, order-sound}
 use Rattle.reader.specs.declared.Refusal.{Refusal}

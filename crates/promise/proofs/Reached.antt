@@ -13,10 +13,10 @@ use Rattle.card.proofs.KindLaws.{coded}
 use Rattle.slot.specs.declared.Holds.{Holds}
 use Rattle.slot.specs.declared.Holds.the-variants.{Card}
 use Rattle.slot.specs.declared.Slot.{Slot}
-use Rattle.command.specs.declared.Order.{Order}
-use Rattle.command.specs.Steps.{order, body}
+use Rattle.steps.specs.declared.Order.{Order}
+use Rattle.steps.specs.Steps.{order, body}
 use Rattle.command.specs.Orders.{performed, commanded}
-use Rattle.command.proofs.Decisions.{order-fits}
+use Rattle.steps.proofs.Decisions.{order-fits}
 use Rattle.command.proofs.ImageKept.{counter-kept}
 use Rattle.reader.specs.declared.Fault.{Fault}
 use Rattle.reader.specs.Messages.{Request, PowerOn, PowerOff, SlotStatus, Transfer, Unsupported, apdu}

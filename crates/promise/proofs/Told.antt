@@ -10,8 +10,8 @@ use Rattle.card.specs.Kinds.{facts}
 use Rattle.slot.specs.declared.Holds.the-variants.{Card}
 use Rattle.slot.specs.declared.Slot.{Slot}
 use Rattle.memory.specs.Reads.{counterRead}
-use Rattle.command.specs.declared.Order.{Order}
-use Rattle.command.specs.Steps.{order, body}
+use Rattle.steps.specs.declared.Order.{Order}
+use Rattle.steps.specs.Steps.{order, body}
 use Rattle.command.specs.Orders.{performed, saidBy, imageBy, slotBy}
 use Rattle.reader.specs.declared.Fault.{Fault}
 use Rattle.reader.specs.Messages.{Transfer, apdu, answer}

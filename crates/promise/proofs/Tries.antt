@@ -16,7 +16,7 @@ use Rattle.card.proofs.ImageLaws.{IsCard}
 use Rattle.slot.specs.declared.Holds.the-variants.{Card}
 use Rattle.slot.specs.declared.Slot.{Slot}
 use Rattle.memory.proofs.CodeLaws.{wrong-costs, right-gives}
-use Rattle.command.specs.Steps.{body}
+use Rattle.steps.specs.Steps.{body}
 use Rattle.command.specs.Orders.{afterCode, imageBy, performed}
 use Rattle.reader.specs.Messages.{apdu}
 use Rattle.reader.specs.Exchange.{Outcome, insertion}

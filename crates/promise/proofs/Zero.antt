@@ -20,8 +20,8 @@ use Rattle.slot.specs.declared.Slot.{Slot}
 use Rattle.slot.specs.Slots.{fullCode}
 use Rattle.slot.proofs.SoundLaws.{Sound, sound-parts}
 use Rattle.memory.proofs.CodeLaws.{presenting-none}
-use Rattle.command.specs.declared.Order.{Order}
-use Rattle.command.specs.Steps.{order, body}
+use Rattle.steps.specs.declared.Order.{Order}
+use Rattle.steps.specs.Steps.{order, body}
 use Rattle.command.specs.Orders.{performed, commanded, imageBy}
 use Rattle.command.proofs.ImageKept.{present-or-not, shut-kept}
 use Rattle.reader.specs.Messages.{Request, PowerOn, PowerOff, SlotStatus, Transfer, Unsupported, apdu}

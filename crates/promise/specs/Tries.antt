@@ -17,8 +17,8 @@ use Rattle.card.specs.Counters.{tries}
 use Rattle.slot.specs.declared.Slot.{Slot}
 use Rattle.slot.specs.Slots.{imageIsCard, sound}
 use Rattle.memory.specs.Codes.{codeIn}
-use Rattle.command.specs.declared.Order.{Order}
-use Rattle.command.specs.Steps.{order, body}
+use Rattle.steps.specs.declared.Order.{Order}
+use Rattle.steps.specs.Steps.{order, body}
 use Rattle.reader.specs.declared.Fault.{Fault}
 use Rattle.reader.specs.Messages.{Request, PowerOn, PowerOff, SlotStatus, Transfer, Unsupported, typeByte, apdu, requestOf, faultOf, isClear}
 use Rattle.reader.specs.Exchange.{insertion}

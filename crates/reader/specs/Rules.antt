@@ -12,7 +12,7 @@ use Rattle.slot.specs.Slots.{pageSize, emptySound, idleSound, typeSound, openSo
 use Rattle.memory.specs.Reads.{visible, bytesRead, counterRead}
 use Rattle.memory.specs.Pages.{cutStart, lands, pageWrite}
 use Rattle.memory.specs.Codes.{spending, judging, presenting, accepts}
-use Rattle.command.specs.Steps.{insOf, steps, order}
+use Rattle.steps.specs.Steps.{insOf, steps, order}
 use Rattle.command.specs.Orders.{written, saidBy, imageBy, slotBy, performed, commanded, reset}
 use Rattle.reader.specs.Messages.{requestOf, faultOf, cardState, bStatus, byte9, header, answer}
 use Rattle.reader.specs.Exchange.{deed, replied, reply, exchange, insertedAs, insertion}

@@ -13,24 +13,24 @@ use Rattle.words.specs.Bytes.{byte, over, same}
 use Rattle.words.proofs.Lists.{over-pair, over-two}
 use Rattle.card.specs.Kinds.{facts}
 use Rattle.card.proofs.KindLaws.{laid, coded, Paged, paged}
-use Rattle.command.specs.Steps.{steps, wordOf, insOf, order, Other}
+use Rattle.steps.specs.Steps.{steps, wordOf, insOf, order, Other}
 use Rattle.command.specs.Orders.{done, written, afterCode, rightCode, saidBy, imageBy, slotBy, performed}
 use Rattle.command.proofs.Tells.{over-done}
 use Rattle.slot.specs.Slots.{selecting, opened, closed}
 use Rattle.slot.specs.declared.Slot.{Slot}
-use Rattle.command.specs.Fits.{Fit, Short}
-use Rattle.command.specs.declared.Order.{Order}
+use Rattle.steps.specs.Fits.{Fit, Short}
+use Rattle.steps.specs.declared.Order.{Order}
 use Rattle.command.specs.Orders.{commanded, Does}
-use Rattle.command.specs.Steps.{body, p3}
+use Rattle.steps.specs.Steps.{body, p3}
 use Rattle.command.proofs.Tells.{does-by}
-use Rattle.command.proofs.Decisions.{order-fits, order-short}
+use Rattle.steps.proofs.Decisions.{order-fits, order-short}
 use Rattle.words.proofs.Lists.{tail-is}
 use mathlib.Core.Path.{subst⁻¹}
 use Rattle.command.proofs.command.Statement.{statement}
 use Rattle.command.proofs.command.Tie as tie
 use Rattle.command.proofs.command.Reads as reads
 use Rattle.command.proofs.command.Lts as lts
-use Rattle.command.proofs.decide.Reads as decide-reads
+use Rattle.steps.proofs.decide.Reads as decide-reads
 use Rattle.command.proofs.perform.Reads as perform-reads
 use Rattle.command.proofs.refuse.Reads as refuse-reads
 

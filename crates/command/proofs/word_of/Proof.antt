@@ -13,7 +13,7 @@ use Rattle.words.specs.Bytes.{byte, over, same}
 use Rattle.words.proofs.Lists.{over-pair, over-two}
 use Rattle.card.specs.Kinds.{facts}
 use Rattle.card.proofs.KindLaws.{laid, coded, Paged, paged}
-use Rattle.command.specs.Steps.{steps, wordOf, insOf, order, Other}
+use Rattle.steps.specs.Steps.{steps, wordOf, insOf, order, Other}
 use Rattle.command.specs.Orders.{done, written, afterCode, rightCode, saidBy, imageBy, slotBy, performed}
 use Rattle.command.proofs.Tells.{over-done}
 use Rattle.slot.specs.Slots.{selecting, opened, closed}

@@ -1,0 +1,107 @@
+-- `present_order` meets its contract: its tests are the steps, in their order.
+use borrow.Author.Needs.{needs}
+use mathlib.Core.Path.{_≡_, refl, sym, ap, ap₂, _∙_, subst}
+use mathlib.Core.Bool.{Bool, true, false, not}
+use native.Mathlib.Omega.{arith}
+use Prim.Native.Nat.{ℕ, _+_, _-_, _*_, _/_, _%_, _^_, _≤_, _<_}
+use borrow.Author.Tests.{eq-eqb, ne-eqb, le-leb, lt-leb, lt-ltb, le-ltb, not-true, not-false}
+use lib.Dec.{leb, ltb, eqb}
+use lib.ListN.{length, take, drop, set, getD, replicate, length-set, length-take, length-drop}
+use mathlib.Core.List.{List, [], _∷_, _++_}
+use Rattle.words.proofs.Choices.{first, rest, taken, met, passed, and-fails, and-holds, or-taken, or-passed}
+use Rattle.words.specs.Choice.{_⇒_⁏_, _and_, _or_, _is_, _isnt_}
+use Rattle.words.specs.Bytes.{byte, over, same}
+use Rattle.card.specs.Kinds.{facts}
+use Rattle.card.proofs.KindLaws.{laid}
+use Rattle.steps.specs.Steps.{steps}
+use lib.Pow.{pow-mono}
+use Rattle.steps.specs.declared.Order.{Order}
+use Rattle.steps.proofs.present_order.Statement.{statement}
+use Rattle.steps.proofs.present_order.Tie as tie
+use Rattle.steps.proofs.present_order.Reads as reads
+use Rattle.steps.proofs.present_order.Lts as lts
+use Rattle.card.proofs.Chip.coded.Reads as coded-reads
+use Rattle.card.proofs.Chip.digits.Reads as digits-reads
+
+returns : tie.Need-returns
+unfolding steps _and_
+returns c =
+    λ im v.
+    (passed _ refl
+    (taken _ (eq-eqb _ 0 (c .if1 .taken))))
+
+coded-requires : tie.Need-coded-requires
+coded-requires c κs = search needs
+
+returns-2 : tie.Need-returns-2
+unfolding steps _and_
+returns-2 c =
+    λ im v.
+    (passed _ refl
+    (passed _ (ne-eqb _ 0 (c .before .before .if1 .left))
+    (taken _ (ap not (sym (c .before .coded .ensures)) ∙ c .if2 .taken))))
+
+add-if3 : tie.Need-add-if3
+add-if3 c = search needs
+
+returns-3 : tie.Need-returns-3
+unfolding steps _and_
+returns-3 c =
+    λ im v.
+    (passed _ refl
+    (passed _ (ne-eqb _ 0 (c .before .before .before .if1 .left))
+    (passed _ (ap not (sym (c .before .before .coded .ensures)) ∙ c .before .if2 .left)
+    (taken _ (ap not (ne-eqb _ _ (c .if3 .taken)))))))
+
+digits-requires : tie.Need-digits-requires
+digits-requires c κs = search needs
+
+returns-4 : tie.Need-returns-4
+unfolding steps _and_
+returns-4 c =
+    λ im v.
+    (passed _ refl
+    (passed _ (ne-eqb _ 0 (c .before .before .before .before .before .if1 .left))
+    (passed _ (ap not (sym (c .before .before .before .before .coded .ensures)) ∙ c .before .before .before .if2 .left)
+    (passed _ (ap not (eq-eqb _ _ (c .before .before .if3 .left)))
+    (taken _ (ap not (ne-eqb _ _ (λ e. c .if4 .taken (e ∙ sym (ap (λ (k : ℕ). k) (c .before .digits .ensures)))))))))))
+
+returns-5 : tie.Need-returns-5
+unfolding steps _and_
+returns-5 c =
+    λ im v.
+    (passed _ refl
+    (passed _ (ne-eqb _ 0 (c .before .before .before .before .before .before .if1 .left))
+    (passed _ (ap not (sym (c .before .before .before .before .before .coded .ensures)) ∙ c .before .before .before .before .if2 .left)
+    (passed _ (ap not (eq-eqb _ _ (c .before .before .before .if3 .left)))
+    (passed _ (ap not (eq-eqb _ _ (c .before .if4 .left ∙ ap (λ (k : ℕ). k) (c .before .before .digits .ensures))))
+    (taken _ (ap not (ne-eqb _ _ (c .if5 .taken)))))))))
+
+returns-6 : tie.Need-returns-6
+unfolding steps _and_
+returns-6 c =
+    λ im v.
+    (passed _ refl
+    (passed _ (ne-eqb _ 0 (c .before .before .before .before .before .before .if1 .left))
+    (passed _ (ap not (sym (c .before .before .before .before .before .coded .ensures)) ∙ c .before .before .before .before .if2 .left)
+    (passed _ (ap not (eq-eqb _ _ (c .before .before .before .if3 .left)))
+    (passed _ (ap not (eq-eqb _ _ (c .before .if4 .left ∙ ap (λ (k : ℕ). k) (c .before .before .digits .ensures))))
+    (passed _ (ap not (eq-eqb _ _ (c .if5 .left)))
+    (passed _ refl
+    (passed _ refl
+    (passed _ refl
+    (refl))))))))))
+
+pub present-order-spec : {M : Type 1} → statement M
+present-order-spec =
+    tie.close
+    (tie.spec
+    returns
+    coded-requires
+    returns-2
+    add-if3
+    returns-3
+    digits-requires
+    returns-4
+    returns-5
+    returns-6)
