@@ -73,3 +73,17 @@ paged Chip.I2c128 h = record { whole = refl; modest = omega arith }
 paged Chip.I2c256 h = record { whole = refl; modest = omega arith }
 paged Chip.Sle4428 h = absurd (omega arith)
 paged Chip.Sle4442 h = absurd (omega arith)
+
+-- every image holds the first four memory bytes
+pub four-bytes : (chip : Chip) → 4 ≤ facts chip .size
+four-bytes Chip.I2c1 = omega arith
+four-bytes Chip.I2c2 = omega arith
+four-bytes Chip.I2c4 = omega arith
+four-bytes Chip.I2c8 = omega arith
+four-bytes Chip.I2c16 = omega arith
+four-bytes Chip.I2c32 = omega arith
+four-bytes Chip.I2c64 = omega arith
+four-bytes Chip.I2c128 = omega arith
+four-bytes Chip.I2c256 = omega arith
+four-bytes Chip.Sle4428 = omega arith
+four-bytes Chip.Sle4442 = omega arith

@@ -2,7 +2,6 @@
 // Inner functions. What they mean is written in specs/: Kinds, Counters, Protection, Images.
 
 use words::byte_at;
-
 ghost use mathlib.Core.Path.{_≡_};
 ghost use Prim.Native.Nat.{ℕ, _+_, _*_, _<_};
 ghost use lib.ListN.{length};

@@ -1,11 +1,11 @@
 -- What an order says and does: the answer's data and status word, the next image, the next slot record.
 use mathlib.Core.Path.{_≡_}
 use Prim.Native.Nat.{ℕ}
-use mathlib.Core.Bool.{Bool, not}
+use mathlib.Core.Bool.{Bool}
 use mathlib.Core.List.{List, [], _∷_, _++_}
-use lib.ListN.{length, take}
+use lib.ListN.{length}
 use lib.Seq.{sets}
-use Rattle.words.specs.Choice.{_⇒_⁏_, _is_, _isnt_}
+use Rattle.words.specs.Choice.{_⇒_⁏_, _is_}
 use Rattle.words.specs.Bytes.{byte, over}
 use Rattle.card.specs.Kinds.{Facts}
 use Rattle.card.specs.Protection.{protectEqual, packedBytes}
@@ -84,10 +84,6 @@ performed f s image b o = record { said = saidBy f s image b o; slot = slotBy f 
 -- a command, from the pseudo-APDU
 unfoldable pub commanded : Facts → Slot → List ℕ → List ℕ → Deed
 commanded f s image d = performed f s image (body d) (order f s image d)
-
--- "Power on": "data 3B 00 for I2C, 3B 04 and the first four memory bytes for a code card"
-unfoldable pub reset : Facts → List ℕ → List ℕ
-reset f image = f .page isnt 0 ⇒ 0x3B ∷ 0x00 ∷ [] ⁏ 0x3B ∷ 0x04 ∷ take 4 image
 
 -- What a handler leaves behind, where d is what is to be done: the length of what it said, the next slot, the image as it left it, and
 -- the lent buffer, what was said laid over what it held.

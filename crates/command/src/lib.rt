@@ -7,7 +7,6 @@ use steps::Order;
 use steps::Status;
 use words::put_two;
 use words::wide;
-
 ghost use mathlib.Core.Path.{_≡_};
 ghost use mathlib.Core.Bool.{true};
 ghost use mathlib.Core.List.{List, [], _∷_};
@@ -34,13 +33,34 @@ fn word_of(status: Status) -> Word
     ensures { λ r. ⌜ wordOf status ≡ r .high ∷ r .low ∷ [] ⌝ }
 {
     match status {
-        Status::Length => Word { high: 0x67, low: 0x00 },
-        Status::Class => Word { high: 0x6E, low: 0x00 },
-        Status::Instruction => Word { high: 0x6D, low: 0x00 },
-        Status::Unselected => Word { high: 0x69, low: 0x85 },
-        Status::Place => Word { high: 0x6B, low: 0x00 },
-        Status::Value => Word { high: 0x6A, low: 0x80 },
-        Status::Denied => Word { high: 0x69, low: 0x82 },
+        Status::Length => Word {
+            high: 0x67,
+            low: 0x00,
+        },
+        Status::Class => Word {
+            high: 0x6E,
+            low: 0x00,
+        },
+        Status::Instruction => Word {
+            high: 0x6D,
+            low: 0x00,
+        },
+        Status::Unselected => Word {
+            high: 0x69,
+            low: 0x85,
+        },
+        Status::Place => Word {
+            high: 0x6B,
+            low: 0x00,
+        },
+        Status::Value => Word {
+            high: 0x6A,
+            low: 0x80,
+        },
+        Status::Denied => Word {
+            high: 0x69,
+            low: 0x82,
+        },
     }
 }
 
@@ -153,7 +173,14 @@ fn change(chip: Chip, slot: Slot, image: &mut [u8], code: &[u8], out: &mut [u8])
     Told { len, slot }
 }
 
-fn perform(order: Order, chip: Chip, slot: Slot, image: &mut [u8], data: &[u8], out: &mut [u8]) -> Told
+fn perform(
+    order: Order,
+    chip: Chip,
+    slot: Slot,
+    image: &mut [u8],
+    data: &[u8],
+    out: &mut [u8],
+) -> Told
     requires { ⌜ (261 ≤ length (now out)) × (length (now image) ≡ facts chip .size) × (0 < slot .page) × Fit (facts chip) (now «data») order × Short order ⌝ }
     ensures { λ r. ⌜ Does (performed (facts chip) slot (now (image .entry)) (now («data» .entry)) order) r (now (image .exit)) (now (out .entry)) (now (out .exit)) ⌝ }
 {
@@ -174,7 +201,8 @@ fn perform(order: Order, chip: Chip, slot: Slot, image: &mut [u8], data: &[u8], 
 // A command: the pseudo-APDU is decided and the order performed, its data from byte 5 on lent to the handler.
 pub fn command(chip: Chip, slot: Slot, image: &mut [u8], apdu: &[u8], out: &mut [u8]) -> Told
     requires { ⌜ (261 ≤ length (now out)) × (length (now image) ≡ facts chip .size) × (0 < slot .page) ⌝ }
-    ensures { λ r. ⌜ Does (commanded (facts chip) slot (now (image .entry)) (now (apdu .entry))) r (now (image .exit)) (now (out .entry)) (now (out .exit)) ⌝ }
+    ensures does { λ r. ⌜ Does (commanded (facts chip) slot (now (image .entry)) (now (apdu .entry))) r (now (image .exit)) (now (out .entry)) (now (out .exit)) ⌝ }
+    ensures short { λ r. ⌜ r .len ≤ 257 ⌝ }
 {
     if apdu.len() < 5 {
         return refuse(Status::Length, slot, out);

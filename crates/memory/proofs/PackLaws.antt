@@ -18,10 +18,10 @@ module _ (bits covered : ℕ) (image : List ℕ) where
   packed-part w (suc m) k s h =
       let here : protectionBit bits covered image k ≡ bitOf w s = ap (protectionBit bits covered image) (sym (add-zero k)) ∙ h 0 (omega arith) ∙ ap (bitOf w) (add-zero s) in
       let later : packed bits covered image (k + 1) m ≡ w / 2 ^ suc s % 2 ^ m =
-          packed-part w m (k + 1) (suc s) (λ i b.
-            let p : k + 1 + i ≡ k + suc i = omega arith in
-            let q : s + suc i ≡ suc s + i = omega arith in
-            ap (protectionBit bits covered image) p ∙ h (suc i) (omega arith) ∙ ap (bitOf w) q) in
+      packed-part w m (k + 1) (suc s) (λ i b.
+      let p : k + 1 + i ≡ k + suc i = omega arith in
+      let q : s + suc i ≡ suc s + i = omega arith in
+      ap (protectionBit bits covered image) p ∙ h (suc i) (omega arith) ∙ ap (bitOf w) q) in
       let half : w / 2 ^ suc s ≡ w / 2 ^ s / 2 = ap (λ (n : ℕ). w / n) (pow-suc 2 s) ∙ sym (div-div-eq-div-mul w (2 ^ s) 2) in
       let split : w / 2 ^ s % 2 ^ (m + 1) ≡ w / 2 ^ s / 2 % 2 ^ m * 2 + w / 2 ^ s % 2 = mod-pow-add (w / 2 ^ s) m 1 in
       let next : packed bits covered image (k + 1) m ≡ w / 2 ^ s / 2 % 2 ^ m = later ∙ ap (λ (n : ℕ). n % 2 ^ m) half in
@@ -52,8 +52,10 @@ packed-eight bits covered image k h small = packed-part bits covered image (a + 
   where
     a : ℕ
     a = byte image (bits + k / 8)
+
     b : ℕ
     b = byte image (bits + k / 8 + 1)
+
     each : (i : ℕ) → i < 8 → protectionBit bits covered image (k + i) ≡ bitOf (a + 256 * b) (k % 8 + i)
     each i l = bit-covered bits covered image (k + i) (omega arith) ∙ go (native.Mathlib.Decide.decLe 8 (k % 8 + i))
       where

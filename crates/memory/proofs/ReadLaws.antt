@@ -58,16 +58,19 @@ module _ (at n : ℕ) (image out : List ℕ) (fits : at + n ≤ length image) (r
   window-long = length-take-le n (drop at image) (omega (arith, length-drop at image))
 
   pub window-out : (k v : ℕ) → (k < at → take n (drop at (set image k v)) ≡ take n (drop at image)) × (at + n ≤ k → take n (drop at (set image k v)) ≡ take n (drop at image))
-  window-out k v = (λ h. ap (take n) (drop-set-lt at image k v h), λ h.
-      let e : at + (k - at) ≡ k = omega arith in
-      ap (λ (m : ℕ). take n (drop at (set image m v))) (sym e) ∙ ap (take n) (drop-set-add at image (k - at) v) ∙ take-set-le n (drop at image) (k - at) v (omega arith))
+  window-out k v = (
+    λ h. ap (take n) (drop-set-lt at image k v h),
+    λ h.
+        let e : at + (k - at) ≡ k = omega arith in
+        ap (λ (m : ℕ). take n (drop at (set image m v))) (sym e) ∙ ap (take n) (drop-set-add at image (k - at) v) ∙ take-set-le n (drop at image) (k - at) v (omega arith),
+  )
 
   pub window-in : (k v : ℕ) → at ≤ k → k < at + n → over (take n (drop at (set image k v))) out ≡ set (over (take n (drop at image)) out) (k - at) v
   unfolding over
   window-in k v h b =
       let e : at + (k - at) ≡ k = omega arith in
       let w : take n (drop at (set image k v)) ≡ set (take n (drop at image)) (k - at) v =
-          ap (λ (m : ℕ). take n (drop at (set image m v))) (sym e) ∙ ap (take n) (drop-set-add at image (k - at) v) ∙ take-set-lt n (drop at image) (k - at) v (omega arith) in
+      ap (λ (m : ℕ). take n (drop at (set image m v))) (sym e) ∙ ap (take n) (drop-set-add at image (k - at) v) ∙ take-set-lt n (drop at image) (k - at) v (omega arith) in
       ap (λ (l : List ℕ). l ++ drop (length l) out) w
       ∙ ap (λ (m : ℕ). set (take n (drop at image)) (k - at) v ++ drop m out) (length-set (take n (drop at image)) (k - at) v)
       ∙ sym (set-append-left (take n (drop at image)) (drop (length (take n (drop at image))) out) (k - at) v (omega (arith, window-long)))
@@ -105,7 +108,7 @@ length-bytesRead code digits o image at n h =
     either (λ (im : List ℕ). length (take n (drop at im)) ≡ n) o
     (λ _. length-take-le n (drop at image) (omega (arith, length-drop at image)))
     (λ _. let z : List ℕ = sets image code (replicate digits 0) in
-      length-take-le n (drop at z) (omega (arith, length-drop at z, length-sets image code (replicate digits 0))))
+    length-take-le n (drop at z) (omega (arith, length-drop at z, length-sets image code (replicate digits 0))))
 
 pub length-counterRead : (counter : ℕ) (image : List ℕ) (n : ℕ) → 1 ≤ n → length (counterRead counter image n) ≡ n
 unfolding counterRead

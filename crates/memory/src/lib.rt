@@ -6,7 +6,6 @@ use words::byte_at;
 use words::lay;
 use words::same_bytes;
 use words::wide;
-
 ghost use mathlib.Core.Path.{_≡_};
 ghost use Prim.Native.Nat.{ℕ, _+_, _-_, _*_, _/_, _%_, _≤_, _<_};
 ghost use lib.ListN.{length};
@@ -45,7 +44,15 @@ fn blank(at: usize, end: usize, code: usize, n: usize, out: &mut [u8])
 }
 
 // The n bytes at `at`; a code of so many digits reads 00h while closed.
-pub fn read(image: &[u8], code: usize, digits: usize, open: bool, at: usize, n: usize, out: &mut [u8])
+pub fn read(
+    image: &[u8],
+    code: usize,
+    digits: usize,
+    open: bool,
+    at: usize,
+    n: usize,
+    out: &mut [u8],
+)
     requires { ⌜ (at + n ≤ length (now image)) × (n ≤ length (now out)) × (code + digits < 65536) ⌝ }
     ensures { λ _. ⌜ now (out .exit) ≡ over (bytesRead code digits «open» (now (image .entry)) at n) (now (out .entry)) ⌝ }
 {

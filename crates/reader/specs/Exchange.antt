@@ -1,27 +1,27 @@
 -- One message, one insertion, one removal: what comes of each, for every input.
 use mathlib.Core.Path.{_≡_}
-use Prim.Native.Nat.{ℕ}
+use Prim.Native.Nat.{ℕ, _+_}
 use mathlib.Core.Bool.{Bool, true, false, not}
-use mathlib.Core.List.{List, []}
-use lib.ListN.{length}
+use mathlib.Core.List.{List, [], _∷_}
+use lib.ListN.{length, take}
 use lib.Dec.{ltb}
-use Rattle.words.specs.Choice.{_⇒_⁏_}
+use Rattle.words.specs.Choice.{_⇒_⁏_, _isnt_}
 use Rattle.words.specs.Bytes.{over}
 use Rattle.card.specs.declared.Chip.{Chip}
 use Rattle.card.specs.declared.Known.{Known}
 use Rattle.card.specs.declared.Known.the-variants.{Is, Unknown}
-use Rattle.card.specs.Kinds.{facts, chipOf}
+use Rattle.card.specs.Kinds.{Facts, facts, chipOf}
 use Rattle.card.specs.Images.{isCard}
 use Rattle.slot.specs.declared.Slot.{Slot}
 use Rattle.slot.specs.declared.Holds.{Holds}
 use Rattle.slot.specs.declared.Holds.the-variants.{Empty, Card}
 use Rattle.slot.specs.Slots.{occupied, imageIsCard, sound, inserted, powered}
-use Rattle.command.specs.Orders.{Deed, commanded, reset}
+use Rattle.command.specs.Orders.{Deed, commanded}
 use Rattle.reader.specs.declared.Fault.{Fault}
 use Rattle.reader.specs.declared.Refusal.{Refusal}
 use Rattle.reader.specs.declared.Verdict.{Verdict}
 use Rattle.reader.specs.declared.Reply.{Reply}
-use Rattle.reader.specs.Messages.{Request, PowerOn, PowerOff, SlotStatus, Transfer, Unsupported, typeByte, apdu, requestOf, faultOf, isClear, answer}
+use Rattle.reader.specs.Messages.{Request, PowerOn, PowerOff, SlotStatus, Transfer, Unsupported, typeByte, apdu, bSlot, bSeq, requestOf, faultOf, isClear, bError, cardState, bStatus, byte9, header, answer}
 
 -- "Turned down without an answer": the numbers of the table
 abbrev pub numberOf : Refusal → ℕ
@@ -41,6 +41,10 @@ pub record Outcome : Type 0 where
 -- "Each returns its number and answer length 0; slot, image and answer buffer keep every byte"
 abbrev pub turnedDown : Refusal → Slot → List ℕ → Outcome
 turnedDown r s image = record { number = numberOf r; answer = []; slot = s; image = image }
+
+-- Power on: "data 3B 00 for I2C, 3B 04 and the first four memory bytes for a code card"
+unfoldable pub reset : Facts → List ℕ → List ℕ
+reset f image = f .page isnt 0 ⇒ 0x3B ∷ 0x00 ∷ [] ⁏ 0x3B ∷ 0x04 ∷ take 4 image
 
 -- a message that does nothing to the slot and the image but what it says of the slot
 abbrev pub idle : Slot → List ℕ → Deed
@@ -103,3 +107,9 @@ pub record Gives (o : Outcome) (r : Reply) (left was holds : List ℕ) : Type 0 
   pub slot : r .slot ≡ o .slot
   pub image : left ≡ o .image
   pub buffer : holds ≡ over (o .answer) was
+
+-- What sealing an answer leaves behind: its verdict, the slot after the call, and the header over the buffer. This is no rule.
+pub record Sealed (type : ℕ) (f : Fault) (len : ℕ) (s : Slot) (m : List ℕ) (r : Reply) (was holds : List ℕ) : Type 0 where
+  pub verdict : r .verdict ≡ Verdict.Answered (10 + len)
+  pub slot : r .slot ≡ s
+  pub buffer : holds ≡ over (header type len (bSlot m) (bSeq m) (bStatus f (cardState (bSlot m) s)) (bError f) (byte9 type (cardState (bSlot m) s))) was

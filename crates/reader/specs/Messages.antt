@@ -125,9 +125,9 @@ cardState n s = n isnt 0 or not (occupied (s .holds)) ⇒ 2 ⁏ s .active ⇒ 0 
 unfoldable pub bStatus : Fault → ℕ → ℕ
 bStatus f state = isClear f ⇒ state ⁏ state + 0x40
 
--- "Byte 9 is 00h in 80h; in 81h it is 00h when slot 0 is meant and active after the call, else 01h"
-unfoldable pub byte9 : Request → ℕ → ℕ
-byte9 r state = answerType r is 0x80 ⇒ 0 ⁏ state is 0 ⇒ 0 ⁏ 1
+-- "Byte 9 is 00h in 80h; in 81h it is 00h when slot 0 is meant and active after the call, else 01h", of an answer type and a card state
+unfoldable pub byte9 : ℕ → ℕ → ℕ
+byte9 type state = type is 0x80 ⇒ 0 ⁏ state is 0 ⇒ 0 ⁏ 1
 
 -- "Answer: type, dwLength, bSlot and bSeq echoed, bStatus, bError, one byte": the ten bytes of a type, a data length, the bSlot and bSeq
 -- of the message, a status, an error and a last byte
@@ -138,4 +138,4 @@ header type len slot seq status error last = type ∷ fourBytes len ++ (slot ∷
 unfoldable pub answer : Request → List ℕ → Fault → Slot → List ℕ → List ℕ
 answer r m f s said =
     let state = cardState (bSlot m) s in
-    header (answerType r) (length said) (bSlot m) (bSeq m) (bStatus f state) (bError f) (byte9 r state) ++ said
+    header (answerType r) (length said) (bSlot m) (bSeq m) (bStatus f state) (bError f) (byte9 (answerType r) state) ++ said

@@ -13,9 +13,9 @@ use Rattle.memory.specs.Reads.{visible, bytesRead, counterRead}
 use Rattle.memory.specs.Pages.{cutStart, lands, pageWrite}
 use Rattle.memory.specs.Codes.{spending, judging, presenting, accepts}
 use Rattle.steps.specs.Steps.{insOf, steps, order}
-use Rattle.command.specs.Orders.{written, saidBy, imageBy, slotBy, performed, commanded, reset}
+use Rattle.command.specs.Orders.{written, saidBy, imageBy, slotBy, performed, commanded}
 use Rattle.reader.specs.Messages.{requestOf, faultOf, cardState, bStatus, byte9, header, answer}
-use Rattle.reader.specs.Exchange.{deed, replied, reply, exchange, insertedAs, insertion}
+use Rattle.reader.specs.Exchange.{reset, deed, replied, reply, exchange, insertedAs, insertion}
 use Rattle.reader.specs.Runs.{run}
 
 unfoldable pub rules : ℕ

@@ -2,7 +2,6 @@
 // What sound means, and each change of the record, is written in specs/Slots.antt.
 
 use card::Chip;
-
 ghost use mathlib.Core.Path.{_≡_};
 ghost use Prim.Native.Nat.{ℕ};
 ghost use Rattle.slot.specs.Slots.{occupied, ownType, fullCode, imageIsCard, pageSize, emptySound, idleSound, typeSound, openSound, sound, inserted, removed, powered, selecting, paged, opened, closed};
@@ -28,7 +27,13 @@ pub fn empty() -> Slot
     ensures { λ r. ⌜ r ≡ removed ⌝ }
 {
     let holds = Holds::Empty;
-    Slot { holds, active: false, selected: 0, page: 8, open: false }
+    Slot {
+        holds,
+        active: false,
+        selected: 0,
+        page: 8,
+        open: false,
+    }
 }
 
 // Each method hands back the next record.
@@ -38,7 +43,13 @@ impl Slot {
         ensures { λ r. ⌜ r ≡ inserted chip ⌝ }
     {
         let holds = Holds::Card(chip);
-        Slot { holds, active: false, selected: 0, page: 8, open: false }
+        Slot {
+            holds,
+            active: false,
+            selected: 0,
+            page: 8,
+            open: false,
+        }
     }
 
     // The empty sound slot.

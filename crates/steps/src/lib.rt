@@ -6,7 +6,6 @@ use card::Place;
 use slot::Slot;
 use words::byte_at;
 use words::wide;
-
 ghost use mathlib.Core.Path.{_≡_};
 ghost use mathlib.Core.Bool.{not};
 ghost use mathlib.Core.List.{List};

@@ -138,3 +138,11 @@ pub same-self : (a : List ℕ) → same a a ≡ true
 unfolding same
 same-self [] = refl
 same-self (x ∷ a) = sym (and-holds (eq-eqb x x refl) (sym (same-self a)))
+
+-- ---- the first four bytes
+pub first-four : (l : List ℕ) → 4 ≤ length l → take 4 l ≡ byte l 0 ∷ byte l 1 ∷ byte l 2 ∷ byte l 3 ∷ []
+first-four [] h = absurd (omega arith)
+first-four (a ∷ []) h = absurd (omega arith)
+first-four (a ∷ b ∷ []) h = absurd (omega arith)
+first-four (a ∷ b ∷ c ∷ []) h = absurd (omega arith)
+first-four (a ∷ b ∷ c ∷ d ∷ l) h = refl

@@ -1,14 +1,10 @@
 -- `chip_of` meets its contract: each arm is its line of the chain, and the ranges are none of them.
-use borrow.Author.Needs.{needs}
-use mathlib.Core.Path.{_≡_, refl, sym, ap, _∙_}
-use native.Mathlib.Omega.{arith}
-use borrow.Author.Tests.{eq-eqb, ne-eqb, le-leb, lt-leb}
 use Rattle.words.specs.Choice.{_⇒_⁏_}
+use mathlib.Core.Path.{sym, ap}
+use borrow.Author.Tests.{ne-eqb}
 use Rattle.card.specs.Kinds.{chipOf}
 use Rattle.card.proofs.chip_of.Statement.{statement}
 use Rattle.card.proofs.chip_of.Tie as tie
-use Rattle.card.proofs.chip_of.Reads as reads
-use Rattle.card.proofs.chip_of.Lts as lts
 
 returns : tie.Need-returns
 unfolding chipOf _⇒_⁏_

@@ -1,12 +1,10 @@
 -- `clear` meets its contract: a bit that is 0 leaves the byte, one that is 1 takes its power of two.
 use borrow.Author.Needs.{needs}
-use mathlib.Core.Path.{_≡_, refl, sym, ap, _∙_}
+use mathlib.Core.Path.{sym}
 use native.Mathlib.Omega.{arith}
 use Rattle.card.proofs.ProtectionLaws.{bit-within, cleared-off, cleared-on}
 use Rattle.card.proofs.clear.Statement.{statement}
 use Rattle.card.proofs.clear.Tie as tie
-use Rattle.card.proofs.clear.Reads as reads
-use Rattle.card.proofs.clear.Lts as lts
 
 cast-if1 : tie.Need-cast-if1
 cast-if1 c = search needs

@@ -1,15 +1,12 @@
 -- `first_protected` meets its contract. The loop's invariant: the answer is that of the search from here on.
 use borrow.Author.Needs.{needs}
-use mathlib.Core.Path.{_≡_, refl, sym, ap, _∙_}
+use mathlib.Core.Path.{_≡_, sym, ap, _∙_}
 use native.Mathlib.Omega.{arith}
-use Prim.Native.Nat.{ℕ, _+_, _-_, _≤_, _<_}
+use Prim.Native.Nat.{_+_, _-_, _≤_}
 use Rattle.card.specs.Protection.{firstProtected}
 use Rattle.card.proofs.ProtectionLaws.{first-none, first-here, first-later}
 use Rattle.card.proofs.first_protected.Statement.{statement}
 use Rattle.card.proofs.first_protected.Tie as tie
-use Rattle.card.proofs.first_protected.Reads as reads
-use Rattle.card.proofs.first_protected.Lts as lts
-use Rattle.card.proofs.protected.Reads as protected-reads
 
 abbrev Inv-loop : tie.InvT-loop
 Inv-loop image bits covered from n to k₀ k = (k ≤ to) × (firstProtected bits covered image «from» n ≡ firstProtected bits covered image k (to - k))

@@ -1,15 +1,12 @@
 -- `protected` meets its contract: a byte past those covered has no bit, and the bit of another is 0 or not.
 use borrow.Author.Needs.{needs}
-use mathlib.Core.Path.{_≡_, refl, sym, ap, _∙_}
+use mathlib.Core.Path.{sym, ap, _∙_}
 use native.Mathlib.Omega.{arith}
 use Prim.Native.Nat.{ℕ, _/_, _%_, _^_}
 use Rattle.words.specs.Choice.{_is_}
 use Rattle.card.proofs.ProtectionLaws.{protected-covered, protected-beyond}
 use Rattle.card.proofs.protected.Statement.{statement}
 use Rattle.card.proofs.protected.Tie as tie
-use Rattle.card.proofs.protected.Reads as reads
-use Rattle.card.proofs.protected.Lts as lts
-use Rattle.words.proofs.byte_at.Reads as byte-at-reads
 
 returns : tie.Need-returns
 returns c = sym (protected-beyond _ _ _ _ (c .if1 .taken))

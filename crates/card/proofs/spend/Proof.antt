@@ -1,14 +1,11 @@
 -- `spend` meets its contract: the lowest one bit stands below 8 and is no more than the counter.
-use borrow.Author.Needs.{needs}
-use mathlib.Core.Path.{_≡_, refl, sym, ap, _∙_}
+use mathlib.Core.Path.{sym, ap, _∙_}
 use native.Mathlib.Omega.{arith}
 use lib.Count.{trailingZeros}
 use Rattle.card.specs.Counters.{spent}
 use Rattle.card.proofs.CounterLaws.{Lowest, lowest, spent-none, spent-some}
 use Rattle.card.proofs.spend.Statement.{statement}
 use Rattle.card.proofs.spend.Tie as tie
-use Rattle.card.proofs.spend.Reads as reads
-use Rattle.card.proofs.spend.Lts as lts
 
 returns : tie.Need-returns
 returns c = sym (ap spent (c .if1 .taken) ∙ spent-none)

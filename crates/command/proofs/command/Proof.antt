@@ -1,38 +1,27 @@
 -- `command` meets its contract: the order that is performed is the one that the steps end in.
 use borrow.Author.Needs.{needs}
-use mathlib.Core.Path.{_≡_, refl, sym, ap, ap₂, _∙_, subst}
-use mathlib.Core.Bool.{Bool, true, false, not}
+use Rattle.command.proofs.Lengths.{said-short}
+use mathlib.Core.Path.{sym, subst}
 use native.Mathlib.Omega.{arith}
-use Prim.Native.Nat.{ℕ, _+_, _-_, _*_, _/_, _%_, _^_, _≤_, _<_}
-use borrow.Author.Tests.{eq-eqb, ne-eqb, le-leb, lt-leb, lt-ltb, le-ltb, not-true, not-false}
-use lib.ListN.{length, take, drop, set, getD, replicate, length-set, length-take, length-drop, length-append}
-use mathlib.Core.List.{List, [], _∷_, _++_}
-use Rattle.words.proofs.Choices.{first, rest, taken, met, passed, and-fails, and-holds, or-taken, or-passed}
-use Rattle.words.specs.Choice.{_⇒_⁏_, _and_, _or_, _is_, _isnt_}
-use Rattle.words.specs.Bytes.{byte, over, same}
-use Rattle.words.proofs.Lists.{over-pair, over-two}
+use Prim.Native.Nat.{ℕ, _≤_}
+use borrow.Author.Tests.{lt-ltb}
+use lib.ListN.{length}
+use mathlib.Core.List.{List}
+use Rattle.words.proofs.Choices.{first, taken}
+use Rattle.words.specs.Choice.{_is_}
 use Rattle.card.specs.Kinds.{facts}
-use Rattle.card.proofs.KindLaws.{laid, coded, Paged, paged}
-use Rattle.steps.specs.Steps.{steps, wordOf, insOf, order, Other}
-use Rattle.command.specs.Orders.{done, written, afterCode, rightCode, saidBy, imageBy, slotBy, performed}
-use Rattle.command.proofs.Tells.{over-done}
-use Rattle.slot.specs.Slots.{selecting, opened, closed}
-use Rattle.slot.specs.declared.Slot.{Slot}
+use Rattle.steps.specs.Steps.{steps, order}
+use Rattle.command.specs.Orders.{saidBy, performed}
 use Rattle.steps.specs.Fits.{Fit, Short}
 use Rattle.steps.specs.declared.Order.{Order}
 use Rattle.command.specs.Orders.{commanded, Does}
-use Rattle.steps.specs.Steps.{body, p3}
+use Rattle.steps.specs.Steps.{body}
 use Rattle.command.proofs.Tells.{does-by}
 use Rattle.steps.proofs.Decisions.{order-fits, order-short}
 use Rattle.words.proofs.Lists.{tail-is}
 use mathlib.Core.Path.{subst⁻¹}
 use Rattle.command.proofs.command.Statement.{statement}
 use Rattle.command.proofs.command.Tie as tie
-use Rattle.command.proofs.command.Reads as reads
-use Rattle.command.proofs.command.Lts as lts
-use Rattle.steps.proofs.decide.Reads as decide-reads
-use Rattle.command.proofs.perform.Reads as perform-reads
-use Rattle.command.proofs.refuse.Reads as refuse-reads
 
 refuse-requires : tie.Need-refuse-requires
 refuse-requires c κs = search needs
@@ -41,10 +30,13 @@ same-length : tie.Need-same-length
 same-length c = search needs
 
 returns : tie.Need-returns
-unfolding commanded order
+unfolding commanded order performed saidBy
 returns c =
     let a = c .before .before .before .before .before .before .before .before .args in
-    does-by (facts (a .chip)) (a .slot) (a .image .now) (body (a .apdu .now)) (first _ _ (lt-ltb (length (a .apdu .now)) 5 (c .before .before .before .before .if1 .taken))) (c .before .before .refuse .ensures (facts (a .chip)) (a .image .now) (body (a .apdu .now)))
+    let g = c .before .before .refuse .ensures (facts (a .chip)) (a .image .now) (body (a .apdu .now)) in (
+      does-by (facts (a .chip)) (a .slot) (a .image .now) (body (a .apdu .now)) (first _ _ (lt-ltb (length (a .apdu .now)) 5 (c .before .before .before .before .if1 .taken))) g,
+      omega (arith, g .len),
+    )
 
 decide-requires : tie.Need-decide-requires
 decide-requires c κs = search needs
@@ -74,13 +66,18 @@ same-length-3 : tie.Need-same-length-3
 same-length-3 c = search needs
 
 returns-2 : tie.Need-returns-2
-unfolding commanded
+unfolding commanded performed
 returns-2 c =
     let a = c .before .before .before .before .before .before .before .before .before .before .before .before .before .before .args in
     let f = facts (a .chip) in
     let d : List ℕ = a .apdu .now in
+    let o : Order = order f (a .slot) (a .image .now) d in
+    let g : Does (performed f (a .slot) (a .image .now) (body d) o) (c .before .before .before .before .perform .result) (c .before .before .before .before .perform .last .1 .1 .1 .0) (a .out .now) (c .before .before .before .before .perform .last .1 .1 .1 .1 .1 .0) =
     does-by f (a .slot) (a .image .now) (body d) (sym (c .before .before .before .before .before .before .before .before .decide .ensures))
-    (subst (λ (b : List ℕ). Does (performed f (a .slot) (a .image .now) b (c .before .before .before .before .before .before .before .before .decide .result)) (c .before .before .before .before .perform .result) (c .before .before .before .before .perform .last .1 .1 .1 .0) (a .out .now) (c .before .before .before .before .perform .last .1 .1 .1 .1 .1 .0)) (tail-is 5 d) (c .before .before .before .before .perform .ensures))
+    (subst (λ (b : List ℕ). Does (performed f (a .slot) (a .image .now) b (c .before .before .before .before .before .before .before .before .decide .result)) (c .before .before .before .before .perform .result) (c .before .before .before .before .perform .last .1 .1 .1 .0) (a .out .now) (c .before .before .before .before .perform .last .1 .1 .1 .1 .1 .0)) (tail-is 5 d) (c .before .before .before .before .perform .ensures)) in
+    let short : length (saidBy f (a .slot) (a .image .now) (body d) o) ≤ 257 =
+    said-short (a .chip) (a .slot) (a .image .now) (body d) o (c .before .before .before .before .before .before .before .before .before .before .before .before .before .before .pre .1) (order-fits f (a .slot) (a .image .now) d) (order-short f (a .slot) (a .image .now) d (omega (arith, c .before .before .before .before .before .before .before .before .before .before .before .before .shared-slice-known .given 4))) in
+    (g, omega (arith, g .len, short))
 
 pub command-spec : {M : Type 1} → statement M
 command-spec =

@@ -1,45 +1,16 @@
 -- `perform` meets its contract: each arm is its order.
 use borrow.Author.Needs.{needs}
-use mathlib.Core.Path.{_≡_, refl, sym, ap, ap₂, _∙_, subst}
-use mathlib.Core.Bool.{Bool, true, false, not}
+use mathlib.Core.Path.{subst}
 use native.Mathlib.Omega.{arith}
-use Prim.Native.Nat.{ℕ, _+_, _-_, _*_, _/_, _%_, _^_, _≤_, _<_}
-use borrow.Author.Tests.{eq-eqb, ne-eqb, le-leb, lt-leb, lt-ltb, le-ltb, not-true, not-false}
-use lib.ListN.{length, take, drop, set, getD, replicate, length-set, length-take, length-drop, length-append}
-use mathlib.Core.List.{List, [], _∷_, _++_}
-use Rattle.words.proofs.Choices.{first, rest, taken, met, passed, and-fails, and-holds, or-taken, or-passed}
-use Rattle.words.specs.Choice.{_⇒_⁏_, _and_, _or_, _is_, _isnt_}
-use Rattle.words.specs.Bytes.{byte, over, same}
-use Rattle.words.proofs.Lists.{over-pair, over-two}
+use Rattle.words.specs.Choice.{_is_}
 use Rattle.card.specs.Kinds.{facts}
-use Rattle.card.proofs.KindLaws.{laid, coded, Paged, paged}
-use Rattle.steps.specs.Steps.{steps, wordOf, insOf, order, Other}
-use Rattle.command.specs.Orders.{done, written, afterCode, rightCode, saidBy, imageBy, slotBy, performed}
-use Rattle.command.proofs.Tells.{over-done}
-use Rattle.slot.specs.Slots.{selecting, opened, closed}
-use Rattle.slot.specs.declared.Slot.{Slot}
+use Rattle.card.proofs.KindLaws.{laid, coded}
+use Rattle.steps.specs.Steps.{order}
 use Rattle.steps.specs.Fits.{Fit, Short}
 use Rattle.steps.specs.declared.Order.{Order}
-use Rattle.command.specs.Orders.{commanded, Does}
-use Rattle.steps.specs.Steps.{body, p3}
 use Rattle.command.proofs.Tells.{does-by}
-use Rattle.steps.proofs.Decisions.{order-fits, order-short}
-use Rattle.words.proofs.Lists.{tail-is}
-use mathlib.Core.Path.{subst⁻¹}
 use Rattle.command.proofs.perform.Statement.{statement}
 use Rattle.command.proofs.perform.Tie as tie
-use Rattle.command.proofs.perform.Reads as reads
-use Rattle.command.proofs.perform.Lts as lts
-use Rattle.command.proofs.change.Reads as change-reads
-use Rattle.command.proofs.present.Reads as present-reads
-use Rattle.command.proofs.protect.Reads as protect-reads
-use Rattle.command.proofs.read.Reads as read-reads
-use Rattle.command.proofs.read_bits.Reads as read-bits-reads
-use Rattle.command.proofs.read_counter.Reads as read-counter-reads
-use Rattle.command.proofs.refuse.Reads as refuse-reads
-use Rattle.command.proofs.select.Reads as select-reads
-use Rattle.command.proofs.set_page.Reads as set-page-reads
-use Rattle.command.proofs.write.Reads as write-reads
 
 enum-known-order : tie.Need-enum-known-order
 enum-known-order c = search needs

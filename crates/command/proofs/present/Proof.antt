@@ -1,36 +1,21 @@
 -- `present` meets its contract: the code presented, and 90 and the counter after.
 use borrow.Author.Needs.{needs}
-use mathlib.Core.Path.{_≡_, refl, sym, ap, ap₂, _∙_, subst}
-use mathlib.Core.Bool.{Bool, true, false, not}
+use mathlib.Core.Path.{_≡_, refl, sym, ap, ap₂, _∙_}
 use native.Mathlib.Omega.{arith}
-use Prim.Native.Nat.{ℕ, _+_, _-_, _*_, _/_, _%_, _^_, _≤_, _<_}
-use borrow.Author.Tests.{eq-eqb, ne-eqb, le-leb, lt-leb, lt-ltb, le-ltb, not-true, not-false}
-use lib.ListN.{length, take, drop, set, getD, replicate, length-set, length-take, length-drop, length-append}
-use mathlib.Core.List.{List, [], _∷_, _++_}
-use Rattle.words.proofs.Choices.{first, rest, taken, met, passed, and-fails, and-holds, or-taken, or-passed}
-use Rattle.words.specs.Choice.{_⇒_⁏_, _and_, _or_, _is_, _isnt_}
+use Prim.Native.Nat.{ℕ}
+use lib.ListN.{length}
+use mathlib.Core.List.{[], _∷_}
+use Rattle.words.proofs.Choices.{taken, passed}
+use Rattle.words.specs.Choice.{_and_}
 use Rattle.words.specs.Bytes.{byte, over, same}
-use Rattle.words.proofs.Lists.{over-pair, over-two}
+use Rattle.words.proofs.Lists.{over-pair}
 use Rattle.card.specs.Kinds.{facts}
-use Rattle.card.proofs.KindLaws.{laid, coded, Paged, paged}
-use Rattle.steps.specs.Steps.{steps, wordOf, insOf, order, Other}
-use Rattle.command.specs.Orders.{done, written, afterCode, rightCode, saidBy, imageBy, slotBy, performed}
-use Rattle.command.proofs.Tells.{over-done}
-use Rattle.slot.specs.Slots.{selecting, opened, closed}
-use Rattle.slot.specs.declared.Slot.{Slot}
+use Rattle.card.proofs.KindLaws.{laid, coded}
+use Rattle.command.specs.Orders.{afterCode, rightCode, saidBy, imageBy, slotBy, performed}
 use Rattle.memory.specs.Codes.{presenting, accepts}
 use Rattle.memory.proofs.CodeLaws.{length-presenting}
 use Rattle.command.proofs.present.Statement.{statement}
 use Rattle.command.proofs.present.Tie as tie
-use Rattle.command.proofs.present.Reads as reads
-use Rattle.command.proofs.present.Lts as lts
-use Rattle.card.proofs.Chip.code.Reads as code-reads
-use Rattle.card.proofs.Chip.counter.Reads as counter-reads
-use Rattle.card.proofs.Chip.full.Reads as full-reads
-use Rattle.memory.proofs.present.Reads as present-reads
-use Rattle.slot.proofs.Slot.close.Reads as close-reads
-use Rattle.slot.proofs.Slot.open.Reads as open-reads
-use Rattle.words.proofs.put_two.Reads as put-two-reads
 
 counter-requires : tie.Need-counter-requires
 counter-requires c κs = search needs
@@ -48,7 +33,7 @@ slice-read-put-two : tie.Need-slice-read-put-two
 slice-read-put-two c =
     let a = c .before .before .before .before .before .before .before .before .before .before .before .before .args in
     let e : length (c .before .before .before .before .present .last .0) ≡ length (a .image .now) =
-        ap length (c .before .before .before .before .present .ensures .1) ∙ length-presenting (c .before .before .before .before .before .before .before .before .counter .result) (c .before .before .before .before .before .before .full .result) (c .before .before .before .before .before .code .result) (length (a .guess .now)) (a .image .now) (a .guess .now) in
+    ap length (c .before .before .before .before .present .ensures .1) ∙ length-presenting (c .before .before .before .before .before .before .before .before .counter .result) (c .before .before .before .before .before .before .full .result) (c .before .before .before .before .before .code .result) (length (a .guess .now)) (a .image .now) (a .guess .now) in
     omega (arith, e, coded (a .chip) (c .before .before .before .before .before .before .before .before .before .before .before .before .pre .2) .inside, c .before .before .before .before .before .before .before .before .counter .ensures)
 
 put-two-requires : tie.Need-put-two-requires

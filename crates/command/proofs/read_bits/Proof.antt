@@ -1,33 +1,19 @@
 -- `read_bits` meets its contract: the packed bits, then 90 00.
 use borrow.Author.Needs.{needs}
-use mathlib.Core.Path.{_≡_, refl, sym, ap, ap₂, _∙_, subst}
-use mathlib.Core.Bool.{Bool, true, false, not}
+use mathlib.Core.Path.{_≡_, refl, ap₂, _∙_}
 use native.Mathlib.Omega.{arith}
-use Prim.Native.Nat.{ℕ, _+_, _-_, _*_, _/_, _%_, _^_, _≤_, _<_}
-use borrow.Author.Tests.{eq-eqb, ne-eqb, le-leb, lt-leb, lt-ltb, le-ltb, not-true, not-false}
-use lib.ListN.{length, take, drop, set, getD, replicate, length-set, length-take, length-drop, length-append}
-use mathlib.Core.List.{List, [], _∷_, _++_}
-use Rattle.words.proofs.Choices.{first, rest, taken, met, passed, and-fails, and-holds, or-taken, or-passed}
-use Rattle.words.specs.Choice.{_⇒_⁏_, _and_, _or_, _is_, _isnt_}
-use Rattle.words.specs.Bytes.{byte, over, same}
-use Rattle.words.proofs.Lists.{over-pair, over-two}
+use Prim.Native.Nat.{ℕ}
+use lib.ListN.{length, length-append}
+use mathlib.Core.List.{List}
+use Rattle.words.specs.Bytes.{over}
 use Rattle.card.specs.Kinds.{facts}
-use Rattle.card.proofs.KindLaws.{laid, coded, Paged, paged}
-use Rattle.steps.specs.Steps.{steps, wordOf, insOf, order, Other}
-use Rattle.command.specs.Orders.{done, written, afterCode, rightCode, saidBy, imageBy, slotBy, performed}
+use Rattle.card.proofs.KindLaws.{laid}
+use Rattle.command.specs.Orders.{done, saidBy, imageBy, slotBy, performed}
 use Rattle.command.proofs.Tells.{over-done}
-use Rattle.slot.specs.Slots.{selecting, opened, closed}
-use Rattle.slot.specs.declared.Slot.{Slot}
 use Rattle.card.specs.Protection.{packedBytes}
 use Rattle.memory.proofs.ReadLaws.{length-packedBytes}
 use Rattle.command.proofs.read_bits.Statement.{statement}
 use Rattle.command.proofs.read_bits.Tie as tie
-use Rattle.command.proofs.read_bits.Reads as reads
-use Rattle.command.proofs.read_bits.Lts as lts
-use Rattle.card.proofs.Chip.bits.Reads as bits-reads
-use Rattle.card.proofs.Chip.covered.Reads as covered-reads
-use Rattle.memory.proofs.read_bits.Reads as read-bits-reads
-use Rattle.words.proofs.put_two.Reads as put-two-reads
 
 bits-requires : tie.Need-bits-requires
 bits-requires c κs = search needs
@@ -53,7 +39,7 @@ returns c =
     let d : List ℕ = packedBytes (f .bits) (f .covered) (a .image .now) (a .at) (a .n) in
     let long : length d ≡ a .n = length-packedBytes (f .bits) (f .covered) (a .image .now) (a .at) (a .n) in
     let e : c .before .before .before .before .before .before .read-bits .last .1 .1 .1 .1 .1 .0 ≡ over d (a .out .now) =
-        c .before .before .before .before .before .before .read-bits .ensures ∙ ap₂ (λ (x y : ℕ). over (packedBytes x y (a .image .now) (a .at) (a .n)) (a .out .now)) (c .before .before .before .before .before .before .before .before .before .bits .ensures) (c .before .before .before .before .before .before .before .before .covered .ensures) in
+    c .before .before .before .before .before .before .read-bits .ensures ∙ ap₂ (λ (x y : ℕ). over (packedBytes x y (a .image .now) (a .at) (a .n)) (a .out .now)) (c .before .before .before .before .before .before .before .before .before .bits .ensures) (c .before .before .before .before .before .before .before .before .covered .ensures) in
     record {
       len = c .before .before .put-two .ensures .0 ∙ omega (arith, length-append d done, long);
       slot = refl;

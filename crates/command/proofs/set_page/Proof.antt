@@ -1,29 +1,13 @@
 -- `set_page` meets its contract: 90 00, and the page is set.
 use borrow.Author.Needs.{needs}
-use mathlib.Core.Path.{_≡_, refl, sym, ap, ap₂, _∙_, subst}
-use mathlib.Core.Bool.{Bool, true, false, not}
+use mathlib.Core.Path.{refl, _∙_}
 use native.Mathlib.Omega.{arith}
-use Prim.Native.Nat.{ℕ, _+_, _-_, _*_, _/_, _%_, _^_, _≤_, _<_}
-use borrow.Author.Tests.{eq-eqb, ne-eqb, le-leb, lt-leb, lt-ltb, le-ltb, not-true, not-false}
-use lib.ListN.{length, take, drop, set, getD, replicate, length-set, length-take, length-drop, length-append}
-use mathlib.Core.List.{List, [], _∷_, _++_}
-use Rattle.words.proofs.Choices.{first, rest, taken, met, passed, and-fails, and-holds, or-taken, or-passed}
-use Rattle.words.specs.Choice.{_⇒_⁏_, _and_, _or_, _is_, _isnt_}
-use Rattle.words.specs.Bytes.{byte, over, same}
-use Rattle.words.proofs.Lists.{over-pair, over-two}
-use Rattle.card.specs.Kinds.{facts}
-use Rattle.card.proofs.KindLaws.{laid, coded, Paged, paged}
-use Rattle.steps.specs.Steps.{steps, wordOf, insOf, order, Other}
-use Rattle.command.specs.Orders.{done, written, afterCode, rightCode, saidBy, imageBy, slotBy, performed}
-use Rattle.command.proofs.Tells.{over-done}
-use Rattle.slot.specs.Slots.{selecting, opened, closed}
-use Rattle.slot.specs.declared.Slot.{Slot}
+use lib.ListN.{set}
+use Rattle.words.specs.Choice.{_and_, _is_}
+use Rattle.words.proofs.Lists.{over-pair}
+use Rattle.command.specs.Orders.{saidBy, imageBy, slotBy, performed}
 use Rattle.command.proofs.set_page.Statement.{statement}
 use Rattle.command.proofs.set_page.Tie as tie
-use Rattle.command.proofs.set_page.Reads as reads
-use Rattle.command.proofs.set_page.Lts as lts
-use Rattle.slot.proofs.Slot.set_page.Reads as set-page-reads
-use Rattle.words.proofs.put_two.Reads as put-two-reads
 
 put-two-requires : tie.Need-put-two-requires
 put-two-requires c κs = search needs

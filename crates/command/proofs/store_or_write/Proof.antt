@@ -1,33 +1,17 @@
 -- `store_or_write` meets its contract: a card without pages stores, one with them writes pages.
 use borrow.Author.Needs.{needs}
-use mathlib.Core.Path.{_≡_, refl, sym, ap, ap₂, _∙_, subst}
-use mathlib.Core.Bool.{Bool, true, false, not}
+use mathlib.Core.Path.{_≡_, refl, sym, ap₂, _∙_}
 use native.Mathlib.Omega.{arith}
-use Prim.Native.Nat.{ℕ, _+_, _-_, _*_, _/_, _%_, _^_, _≤_, _<_}
-use borrow.Author.Tests.{eq-eqb, ne-eqb, le-leb, lt-leb, lt-ltb, le-ltb, not-true, not-false}
-use lib.ListN.{length, take, drop, set, getD, replicate, length-set, length-take, length-drop, length-append}
-use mathlib.Core.List.{List, [], _∷_, _++_}
-use Rattle.words.proofs.Choices.{first, rest, taken, met, passed, and-fails, and-holds, or-taken, or-passed}
-use Rattle.words.specs.Choice.{_⇒_⁏_, _and_, _or_, _is_, _isnt_}
-use Rattle.words.specs.Bytes.{byte, over, same}
-use Rattle.words.proofs.Lists.{over-pair, over-two}
+use Prim.Native.Nat.{ℕ, _%_, _<_}
+use borrow.Author.Tests.{eq-eqb, ne-eqb}
+use lib.ListN.{length}
+use Rattle.words.proofs.Choices.{taken, passed}
 use Rattle.card.specs.Kinds.{facts}
-use Rattle.card.proofs.KindLaws.{laid, coded, Paged, paged}
-use Rattle.steps.specs.Steps.{steps, wordOf, insOf, order, Other}
-use Rattle.command.specs.Orders.{done, written, afterCode, rightCode, saidBy, imageBy, slotBy, performed}
-use Rattle.command.proofs.Tells.{over-done}
-use Rattle.slot.specs.Slots.{selecting, opened, closed}
-use Rattle.slot.specs.declared.Slot.{Slot}
+use Rattle.card.proofs.KindLaws.{laid, paged}
+use Rattle.command.specs.Orders.{written}
 use Rattle.memory.specs.Pages.{pageWrite}
-use lib.Seq.{sets}
 use Rattle.command.proofs.store_or_write.Statement.{statement}
 use Rattle.command.proofs.store_or_write.Tie as tie
-use Rattle.command.proofs.store_or_write.Reads as reads
-use Rattle.command.proofs.store_or_write.Lts as lts
-use Rattle.card.proofs.Chip.page.Reads as page-reads
-use Rattle.memory.proofs.store.Reads as store-reads
-use Rattle.memory.proofs.write_pages.Reads as write-pages-reads
-use Rattle.words.proofs.wide.Reads as wide-reads
 
 page-requires : tie.Need-page-requires
 page-requires c κs = search needs
@@ -49,14 +33,13 @@ write-pages-requires : tie.Need-write-pages-requires
 write-pages-requires c κs =
     let a = c .before .before .before .before .before .before .args in
     let some : 0 < facts (a .chip) .page = omega (arith, c .before .before .before .page .ensures, c .before .before .if1 .left) in
-    let w : length (a .image .now) % c .before .before .before .page .result ≡ 0 = ap₂ (λ (x y : ℕ). x % y) (c .before .before .before .before .before .before .pre .0) (c .before .before .before .page .ensures) ∙ paged (a .chip) some .whole in
-    (
-        omega (arith, laid (a .chip) .front, c .before .before .before .before .before .before .pre .0),
-        omega (arith, c .wide .ensures .0),
-        omega (arith, c .before .before .before .page .ensures),
-        omega (arith, c .before .before .before .page .ensures, paged (a .chip) some .modest),
-        w,
-        omega (arith, laid (a .chip) .room, c .before .before .before .before .before .before .pre .0)
+    let w : length (a .image .now) % c .before .before .before .page .result ≡ 0 = ap₂ (λ (x y : ℕ). x % y) (c .before .before .before .before .before .before .pre .0) (c .before .before .before .page .ensures) ∙ paged (a .chip) some .whole in (
+      omega (arith, laid (a .chip) .front, c .before .before .before .before .before .before .pre .0),
+      omega (arith, c .wide .ensures .0),
+      omega (arith, c .before .before .before .page .ensures),
+      omega (arith, c .before .before .before .page .ensures, paged (a .chip) some .modest),
+      w,
+      omega (arith, laid (a .chip) .room, c .before .before .before .before .before .before .pre .0),
     )
 
 same-length-2 : tie.Need-same-length-2

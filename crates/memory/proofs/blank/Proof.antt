@@ -1,21 +1,13 @@
 -- `blank` meets its contract. The loop's invariant: so many bytes are blanked.
 use borrow.Author.Needs.{needs}
-use mathlib.Core.Path.{_≡_, refl, sym, ap, ap₂, _∙_, subst}
-use mathlib.Core.Bool.{Bool, true, false, not}
+use mathlib.Core.Path.{_≡_, refl, sym, ap, _∙_}
 use native.Mathlib.Omega.{arith}
-use Prim.Native.Nat.{ℕ, _+_, _-_, _*_, _/_, _%_, _^_, _≤_, _<_}
-use borrow.Author.Tests.{eq-eqb, ne-eqb, le-leb, lt-leb, not-true, not-false}
-use lib.ListN.{length, take, drop, set, getD, replicate, length-set, length-take, length-drop}
-use mathlib.Core.List.{List, [], _∷_, _++_}
-use Rattle.words.proofs.Choices.{first, rest, taken, passed, and-fails, and-holds}
-use Rattle.words.specs.Bytes.{byte, over, same}
+use Prim.Native.Nat.{ℕ, _+_, _-_, _≤_}
+use lib.ListN.{length}
 use Rattle.memory.specs.Inner.{blankOne, blanked}
-use Rattle.memory.proofs.ReadLaws.{blanked-none, blanked-more, length-blanked, length-blankOne}
+use Rattle.memory.proofs.ReadLaws.{blanked-none, blanked-more, length-blanked}
 use Rattle.memory.proofs.blank.Statement.{statement}
 use Rattle.memory.proofs.blank.Tie as tie
-use Rattle.memory.proofs.blank.Reads as reads
-use Rattle.memory.proofs.blank.Lts as lts
-use Rattle.memory.proofs.blank_one.Reads as blank-one-reads
 
 abbrev Inv-loop : tie.InvT-loop
 Inv-loop at end code n out₀ i₀ out i = (i ≤ n) × (length out ≡ length out₀) × (out ≡ blanked at end code i out₀)
@@ -43,7 +35,7 @@ loop-again c =
     let l = c .before .before .before .before .before .loop in
     let a = c .before .before .before .before .before .before .before .args in
     let e : c .before .before .blank-one .last .1 .1 .1 .0 ≡ blanked (a .at) (a .end) (a .code) (l .i + 1) (a .out .now) =
-        c .before .before .blank-one .ensures ∙ ap (blankOne (a .at) (a .end) (a .code + l .i)) (l .inv .2) ∙ sym (blanked-more (a .at) (a .end) (a .code) (l .i) (a .out .now)) in
+    c .before .before .blank-one .ensures ∙ ap (blankOne (a .at) (a .end) (a .code + l .i)) (l .inv .2) ∙ sym (blanked-more (a .at) (a .end) (a .code) (l .i) (a .out .now)) in
     (omega arith, ap length e ∙ length-blanked (a .at) (a .end) (a .code) (l .i + 1) (a .out .now), e)
 
 same-length : tie.Need-same-length Inv-loop μ-loop

@@ -1,19 +1,13 @@
 -- `blank_one` meets its contract: a byte before or behind the window is not there, one in it is set.
 use borrow.Author.Needs.{needs}
-use mathlib.Core.Path.{_≡_, refl, sym, ap, ap₂, _∙_, subst}
-use mathlib.Core.Bool.{Bool, true, false, not}
-use native.Mathlib.Omega.{arith}
-use Prim.Native.Nat.{ℕ, _+_, _-_, _*_, _/_, _%_, _^_, _≤_, _<_}
-use borrow.Author.Tests.{eq-eqb, ne-eqb, le-leb, lt-leb, not-true, not-false}
-use lib.ListN.{length, take, drop, set, getD, replicate, length-set, length-take, length-drop}
-use mathlib.Core.List.{List, [], _∷_, _++_}
-use Rattle.words.proofs.Choices.{first, rest, taken, passed, and-fails, and-holds}
-use Rattle.words.specs.Bytes.{byte, over, same}
+use mathlib.Core.Path.{sym}
+use mathlib.Core.Bool.{not}
+use lib.ListN.{set}
+use Rattle.words.proofs.Choices.{taken}
+use Rattle.words.specs.Bytes.{byte}
 use Rattle.memory.proofs.ReadLaws.{blank-before, blank-behind, blank-here}
 use Rattle.memory.proofs.blank_one.Statement.{statement}
 use Rattle.memory.proofs.blank_one.Tie as tie
-use Rattle.memory.proofs.blank_one.Reads as reads
-use Rattle.memory.proofs.blank_one.Lts as lts
 
 returns : tie.Need-returns
 returns c = sym (blank-before (c .before .args .at) (c .before .args .end) (c .before .args .k) (c .before .args .out .now) (c .if1 .taken))

@@ -1,20 +1,14 @@
 -- `judge` meets its contract: the codes are compared as the rule compares them.
 use borrow.Author.Needs.{needs}
-use mathlib.Core.Path.{_≡_, refl, sym, ap, ap₂, _∙_, subst}
-use mathlib.Core.Bool.{Bool, true, false, not}
+use mathlib.Core.Path.{_≡_, refl, sym, ap, _∙_}
 use native.Mathlib.Omega.{arith}
-use Prim.Native.Nat.{ℕ, _+_, _-_, _*_, _/_, _%_, _^_, _≤_, _<_}
-use borrow.Author.Tests.{eq-eqb, ne-eqb, le-leb, lt-leb, not-true, not-false}
-use lib.ListN.{length, take, drop, set, getD, replicate, length-set, length-take, length-drop}
-use mathlib.Core.List.{List, [], _∷_, _++_}
-use Rattle.words.proofs.Choices.{first, rest, taken, passed, and-fails, and-holds}
-use Rattle.words.specs.Bytes.{byte, over, same}
+use Prim.Native.Nat.{ℕ, _+_, _-_}
+use lib.ListN.{length, take, drop}
+use Rattle.words.proofs.Choices.{taken, passed}
+use Rattle.words.specs.Bytes.{same}
 use Rattle.memory.specs.Codes.{codeIn, judging}
 use Rattle.memory.proofs.judge.Statement.{statement}
 use Rattle.memory.proofs.judge.Tie as tie
-use Rattle.memory.proofs.judge.Reads as reads
-use Rattle.memory.proofs.judge.Lts as lts
-use Rattle.words.proofs.same_bytes.Reads as same-bytes-reads
 
 add-end : tie.Need-add-end
 add-end c = search needs

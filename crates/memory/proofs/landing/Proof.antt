@@ -1,20 +1,12 @@
 -- `landing` meets its contract: the sum is the rule's.
 use borrow.Author.Needs.{needs}
-use mathlib.Core.Path.{_≡_, refl, sym, ap, ap₂, _∙_, subst}
-use mathlib.Core.Bool.{Bool, true, false, not}
+use mathlib.Core.Path.{refl}
 use native.Mathlib.Omega.{arith}
-use Prim.Native.Nat.{ℕ, _+_, _-_, _*_, _/_, _%_, _^_, _≤_, _<_}
-use borrow.Author.Tests.{eq-eqb, ne-eqb, le-leb, lt-leb, not-true, not-false}
-use lib.ListN.{length, take, drop, set, getD, replicate, length-set, length-take, length-drop}
-use mathlib.Core.List.{List, [], _∷_, _++_}
-use Rattle.words.proofs.Choices.{first, rest, taken, passed, and-fails, and-holds}
-use Rattle.words.specs.Bytes.{byte, over, same}
+use Prim.Native.Nat.{_+_, _-_, _%_, _<_}
 use native.Mathlib.Nat.{mod-le, mod-lt}
 use Rattle.memory.specs.Pages.{lands}
 use Rattle.memory.proofs.landing.Statement.{statement}
 use Rattle.memory.proofs.landing.Tie as tie
-use Rattle.memory.proofs.landing.Reads as reads
-use Rattle.memory.proofs.landing.Lts as lts
 
 rem-low : tie.Need-rem-low
 rem-low c = search needs

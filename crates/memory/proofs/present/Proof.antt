@@ -1,21 +1,16 @@
 -- `present` meets its contract: with no try nothing is done, else a try is spent and the code judged.
 use borrow.Author.Needs.{needs}
-use mathlib.Core.Path.{_≡_, refl, sym, ap, ap₂, _∙_, subst}
-use mathlib.Core.Bool.{Bool, true, false, not}
-use native.Mathlib.Omega.{arith}
-use Prim.Native.Nat.{ℕ, _+_, _-_, _*_, _/_, _%_, _^_, _≤_, _<_}
-use borrow.Author.Tests.{eq-eqb, ne-eqb, le-leb, lt-leb, not-true, not-false}
-use lib.ListN.{length, take, drop, set, getD, replicate, length-set, length-take, length-drop}
-use mathlib.Core.List.{List, [], _∷_, _++_}
-use Rattle.words.proofs.Choices.{first, rest, taken, passed, and-fails, and-holds}
-use Rattle.words.specs.Bytes.{byte, over, same}
-use Rattle.memory.specs.Codes.{codeIn, spending, judging, presenting, accepts}
+use mathlib.Core.Path.{ap, _∙_}
+use mathlib.Core.Bool.{not}
+use Prim.Native.Nat.{ℕ}
+use borrow.Author.Tests.{eq-eqb, ne-eqb}
+use lib.ListN.{length}
+use mathlib.Core.List.{List}
+use Rattle.words.proofs.Choices.{taken, passed, and-fails, and-holds}
+use Rattle.words.specs.Bytes.{same}
+use Rattle.memory.specs.Codes.{codeIn, judging, presenting, accepts}
 use Rattle.memory.proofs.present.Statement.{statement}
 use Rattle.memory.proofs.present.Tie as tie
-use Rattle.memory.proofs.present.Reads as reads
-use Rattle.memory.proofs.present.Lts as lts
-use Rattle.memory.proofs.judge.Reads as judge-reads
-use Rattle.memory.proofs.spend_try.Reads as spend-try-reads
 
 slice-read-if1 : tie.Need-slice-read-if1
 slice-read-if1 c = search needs
@@ -37,10 +32,9 @@ returns-2 : tie.Need-returns-2
 unfolding presenting accepts
 returns-2 c =
     let a = c .before .before .before .before .before .before .before .before .before .before .before .before .args in
-    let n : ℕ = length (a .guess .now) in
-    (
-        and-holds (ap not (ne-eqb _ 0 (c .before .before .before .before .before .before .before .before .if1 .left))) (c .before .before .judge .ensures .0 ∙ ap (λ (im : List ℕ). same (a .guess .now) (codeIn (a .code) n im)) (c .before .before .before .before .before .before .spend-try .ensures)),
-        passed _ (ne-eqb _ 0 (c .before .before .before .before .before .before .before .before .if1 .left)) (c .before .before .judge .ensures .1 ∙ ap (λ (im : List ℕ). judging (a .counter) (a .full) (a .code) n im (a .guess .now)) (c .before .before .before .before .before .before .spend-try .ensures))
+    let n : ℕ = length (a .guess .now) in (
+      and-holds (ap not (ne-eqb _ 0 (c .before .before .before .before .before .before .before .before .if1 .left))) (c .before .before .judge .ensures .0 ∙ ap (λ (im : List ℕ). same (a .guess .now) (codeIn (a .code) n im)) (c .before .before .before .before .before .before .spend-try .ensures)),
+      passed _ (ne-eqb _ 0 (c .before .before .before .before .before .before .before .before .if1 .left)) (c .before .before .judge .ensures .1 ∙ ap (λ (im : List ℕ). judging (a .counter) (a .full) (a .code) n im (a .guess .now)) (c .before .before .before .before .before .before .spend-try .ensures)),
     )
 
 pub present-spec : {M : Type 1} → statement M

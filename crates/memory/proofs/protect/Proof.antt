@@ -1,23 +1,17 @@
 -- `protect` meets its contract. The loop's invariant: what is left to do gives the whole.
 use borrow.Author.Needs.{needs}
-use mathlib.Core.Path.{_≡_, refl, sym, ap, ap₂, _∙_, subst}
-use mathlib.Core.Bool.{Bool, true, false, not}
+use mathlib.Core.Path.{_≡_, refl, sym, ap, _∙_}
 use native.Mathlib.Omega.{arith}
-use Prim.Native.Nat.{ℕ, _+_, _-_, _*_, _/_, _%_, _^_, _≤_, _<_}
-use borrow.Author.Tests.{eq-eqb, ne-eqb, le-leb, lt-leb, not-true, not-false}
-use lib.ListN.{length, take, drop, set, getD, replicate, length-set, length-take, length-drop}
-use mathlib.Core.List.{List, [], _∷_, _++_}
-use Rattle.words.proofs.Choices.{first, rest, taken, passed, and-fails, and-holds}
-use Rattle.words.specs.Bytes.{byte, over, same}
+use Prim.Native.Nat.{ℕ, _+_, _-_, _≤_}
+use lib.ListN.{length, drop}
+use mathlib.Core.List.{List}
+use Rattle.words.proofs.Choices.{taken}
 use mathlib.Core.Logic.{⊎-elim}
 use native.Mathlib.Nat.{add-zero}
-use Rattle.card.specs.Protection.{protectEqual, protecting}
+use Rattle.card.specs.Protection.{protectEqual}
 use Rattle.card.proofs.ProtectionLaws.{length-protecting, equal-hit, equal-miss, equal-end}
 use Rattle.memory.proofs.protect.Statement.{statement}
 use Rattle.memory.proofs.protect.Tie as tie
-use Rattle.memory.proofs.protect.Reads as reads
-use Rattle.memory.proofs.protect.Lts as lts
-use Rattle.memory.proofs.protect_one.Reads as protect-one-reads
 
 abbrev Inv-loop : tie.InvT-loop
 Inv-loop image₀ bits covered at «data» i₀ image i = (i ≤ length «data») × (length image ≡ length image₀) × (protectEqual bits covered image₀ at «data» ≡ protectEqual bits covered image (at + i) (drop i «data»))
@@ -49,19 +43,18 @@ loop-less c = search needs
 loop-again : tie.Need-loop-again Inv-loop μ-loop
 loop-again c =
     let a = c .before .before .before .before .before .before .before .args in
-    let l = c .before .before .before .before .loop in
-    (
-        omega arith,
-        ⊎-elim
-        (λ w. ap length (w .5 ∙ w .2 .ensures) ∙ length-protecting (a .bits) (a .covered) (l .image) (a .at + l .i) ∙ l .inv .1)
-        (λ w. ap length (w .1) ∙ l .inv .1)
-        (c .if1 .came),
-        l .inv .2 ∙ ⊎-elim
-        (λ w. equal-hit (a .bits) (a .covered) (l .image) (a .at) (l .i) (a .«data» .now) (omega arith) (w .0 .taken)
-            ∙ ap (λ (t : List ℕ). protectEqual (a .bits) (a .covered) t (a .at + (l .i + 1)) (drop (l .i + 1) (a .«data» .now))) (sym (w .5 ∙ w .2 .ensures)))
-        (λ w. equal-miss (a .bits) (a .covered) (l .image) (a .at) (l .i) (a .«data» .now) (omega arith) (w .0 .left)
-            ∙ ap (λ (t : List ℕ). protectEqual (a .bits) (a .covered) t (a .at + (l .i + 1)) (drop (l .i + 1) (a .«data» .now))) (sym (w .1)))
-        (c .if1 .came)
+    let l = c .before .before .before .before .loop in (
+      omega arith,
+      ⊎-elim
+          (λ w. ap length (w .5 ∙ w .2 .ensures) ∙ length-protecting (a .bits) (a .covered) (l .image) (a .at + l .i) ∙ l .inv .1)
+          (λ w. ap length (w .1) ∙ l .inv .1)
+          (c .if1 .came),
+      l .inv .2 ∙ ⊎-elim
+          (λ w. equal-hit (a .bits) (a .covered) (l .image) (a .at) (l .i) (a .«data» .now) (omega arith) (w .0 .taken)
+          ∙ ap (λ (t : List ℕ). protectEqual (a .bits) (a .covered) t (a .at + (l .i + 1)) (drop (l .i + 1) (a .«data» .now))) (sym (w .5 ∙ w .2 .ensures)))
+          (λ w. equal-miss (a .bits) (a .covered) (l .image) (a .at) (l .i) (a .«data» .now) (omega arith) (w .0 .left)
+          ∙ ap (λ (t : List ℕ). protectEqual (a .bits) (a .covered) t (a .at + (l .i + 1)) (drop (l .i + 1) (a .«data» .now))) (sym (w .1)))
+          (c .if1 .came),
     )
 
 same-length : tie.Need-same-length Inv-loop μ-loop
@@ -73,7 +66,7 @@ returns c =
     let l = c .before .loop in
     let e : l .i ≡ length (a .«data» .now) = omega arith in
     sym (l .inv .2 ∙ ap (λ (k : ℕ). protectEqual (a .bits) (a .covered) (l .image) (a .at + k) (drop k (a .«data» .now))) e
-        ∙ equal-end (a .bits) (a .covered) (l .image) (a .at + length (a .«data» .now)) (a .«data» .now))
+    ∙ equal-end (a .bits) (a .covered) (l .image) (a .at + length (a .«data» .now)) (a .«data» .now))
 
 pub protect-spec : {M : Type 1} → statement M
 protect-spec =

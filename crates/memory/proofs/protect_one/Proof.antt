@@ -1,20 +1,12 @@
 -- `protect_one` meets its contract: one byte is stored, with its bit cleared.
 use borrow.Author.Needs.{needs}
-use mathlib.Core.Path.{_≡_, refl, sym, ap, ap₂, _∙_, subst}
-use mathlib.Core.Bool.{Bool, true, false, not}
-use native.Mathlib.Omega.{arith}
-use Prim.Native.Nat.{ℕ, _+_, _-_, _*_, _/_, _%_, _^_, _≤_, _<_}
-use borrow.Author.Tests.{eq-eqb, ne-eqb, le-leb, lt-leb, not-true, not-false}
-use lib.ListN.{length, take, drop, set, getD, replicate, length-set, length-take, length-drop}
-use mathlib.Core.List.{List, [], _∷_, _++_}
-use Rattle.words.proofs.Choices.{first, rest, taken, passed, and-fails, and-holds}
-use Rattle.words.specs.Bytes.{byte, over, same}
+use mathlib.Core.Path.{ap}
+use Prim.Native.Nat.{_+_, _/_}
+use lib.ListN.{set}
+use Rattle.words.specs.Bytes.{byte}
 use Rattle.card.specs.Protection.{protecting, cleared}
 use Rattle.memory.proofs.protect_one.Statement.{statement}
 use Rattle.memory.proofs.protect_one.Tie as tie
-use Rattle.memory.proofs.protect_one.Reads as reads
-use Rattle.memory.proofs.protect_one.Lts as lts
-use Rattle.card.proofs.clear.Reads as clear-reads
 
 add-place : tie.Need-add-place
 add-place c = search needs

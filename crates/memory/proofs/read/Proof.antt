@@ -1,23 +1,17 @@
 -- `read` meets its contract: the bytes are laid, and those of the code blanked, as in the image.
 use borrow.Author.Needs.{needs}
-use mathlib.Core.Path.{_≡_, refl, sym, ap, ap₂, _∙_, subst}
-use mathlib.Core.Bool.{Bool, true, false, not}
+use mathlib.Core.Path.{_≡_, refl, ap, _∙_}
 use native.Mathlib.Omega.{arith}
-use Prim.Native.Nat.{ℕ, _+_, _-_, _*_, _/_, _%_, _^_, _≤_, _<_}
-use borrow.Author.Tests.{eq-eqb, ne-eqb, le-leb, lt-leb, not-true, not-false}
-use lib.ListN.{length, take, drop, set, getD, replicate, length-set, length-take, length-drop}
-use mathlib.Core.List.{List, [], _∷_, _++_}
-use Rattle.words.proofs.Choices.{first, rest, taken, passed, and-fails, and-holds}
-use Rattle.words.specs.Bytes.{byte, over, same}
+use Prim.Native.Nat.{ℕ, _+_, _-_}
+use lib.ListN.{take, drop}
+use mathlib.Core.List.{List}
+use Rattle.words.proofs.Choices.{taken, passed}
+use Rattle.words.specs.Bytes.{over}
 use Rattle.memory.specs.Reads.{visible, bytesRead}
 use Rattle.memory.specs.Inner.{blanked}
 use Rattle.memory.proofs.ReadLaws.{blank-code}
 use Rattle.memory.proofs.read.Statement.{statement}
 use Rattle.memory.proofs.read.Tie as tie
-use Rattle.memory.proofs.read.Reads as reads
-use Rattle.memory.proofs.read.Lts as lts
-use Rattle.memory.proofs.blank.Reads as blank-reads
-use Rattle.words.proofs.lay.Reads as lay-reads
 
 add-end : tie.Need-add-end
 add-end c = search needs

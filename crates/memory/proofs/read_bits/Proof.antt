@@ -1,22 +1,16 @@
 -- `read_bits` meets its contract. The loop's invariant: so many bytes of bits.
 use borrow.Author.Needs.{needs}
-use mathlib.Core.Path.{_≡_, refl, sym, ap, ap₂, _∙_, subst}
-use mathlib.Core.Bool.{Bool, true, false, not}
+use mathlib.Core.Path.{_≡_, refl, sym, ap, ap₂, _∙_}
 use native.Mathlib.Omega.{arith}
-use Prim.Native.Nat.{ℕ, _+_, _-_, _*_, _/_, _%_, _^_, _≤_, _<_}
-use borrow.Author.Tests.{eq-eqb, ne-eqb, le-leb, lt-leb, not-true, not-false}
-use lib.ListN.{length, take, drop, set, getD, replicate, length-set, length-take, length-drop}
-use mathlib.Core.List.{List, [], _∷_, _++_}
-use Rattle.words.proofs.Choices.{first, rest, taken, passed, and-fails, and-holds}
-use Rattle.words.specs.Bytes.{byte, over, same}
+use Prim.Native.Nat.{ℕ, _+_, _-_, _*_, _≤_}
+use lib.ListN.{length, set, length-set}
+use mathlib.Core.List.{List}
+use Rattle.words.specs.Bytes.{over}
 use Rattle.words.specs.Bytes.{run}
 use Rattle.words.proofs.Lists.{run-next, over-none}
 use Rattle.card.specs.Protection.{packed, packedBytes}
 use Rattle.memory.proofs.read_bits.Statement.{statement}
 use Rattle.memory.proofs.read_bits.Tie as tie
-use Rattle.memory.proofs.read_bits.Reads as reads
-use Rattle.memory.proofs.read_bits.Lts as lts
-use Rattle.memory.proofs.read_eight.Reads as read-eight-reads
 
 abbrev Inv-loop : tie.InvT-loop
 Inv-loop image bits covered at n out₀ j₀ out j = (j ≤ n) × (length out ≡ length out₀) × (out ≡ over (run (λ (i : ℕ). packed bits covered image (at + 8 * i) 8) 0 j) out₀)
@@ -50,11 +44,10 @@ loop-again : tie.Need-loop-again Inv-loop μ-loop
 loop-again c =
     let l = c .before .before .loop in
     let a = c .before .before .before .before .before .args in
-    let f : ℕ → ℕ = λ i. packed (a .bits) (a .covered) (a .image .now) (a .at + 8 * i) 8 in
-    (
-        omega arith,
-        simp length-set (l .inv .1),
-        ap₂ (λ (t : List ℕ) (v : ℕ). set t (l .j) v) (l .inv .2) (c .read-eight .ensures) ∙ run-next f (l .j) (a .out .now) (omega arith)
+    let f : ℕ → ℕ = λ i. packed (a .bits) (a .covered) (a .image .now) (a .at + 8 * i) 8 in (
+      omega arith,
+      simp length-set (l .inv .1),
+      ap₂ (λ (t : List ℕ) (v : ℕ). set t (l .j) v) (l .inv .2) (c .read-eight .ensures) ∙ run-next f (l .j) (a .out .now) (omega arith),
     )
 
 same-length : tie.Need-same-length Inv-loop μ-loop

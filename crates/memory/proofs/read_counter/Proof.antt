@@ -1,21 +1,16 @@
 -- `read_counter` meets its contract. The loop's invariant: the counter, and so many bytes 00h.
 use borrow.Author.Needs.{needs}
-use mathlib.Core.Path.{_≡_, refl, sym, ap, ap₂, _∙_, subst}
-use mathlib.Core.Bool.{Bool, true, false, not}
+use mathlib.Core.Path.{_≡_, refl, sym, ap, _∙_}
 use native.Mathlib.Omega.{arith}
-use Prim.Native.Nat.{ℕ, _+_, _-_, _*_, _/_, _%_, _^_, _≤_, _<_}
-use borrow.Author.Tests.{eq-eqb, ne-eqb, le-leb, lt-leb, not-true, not-false}
-use lib.ListN.{length, take, drop, set, getD, replicate, length-set, length-take, length-drop}
+use Prim.Native.Nat.{ℕ, _+_, _-_, _≤_, _<_}
+use lib.ListN.{length, set, replicate, length-set}
 use mathlib.Core.List.{List, [], _∷_, _++_}
-use Rattle.words.proofs.Choices.{first, rest, taken, passed, and-fails, and-holds}
-use Rattle.words.specs.Bytes.{byte, over, same}
+use Rattle.words.specs.Bytes.{byte, over}
 use Rattle.memory.specs.Reads.{counterRead}
 use Rattle.words.proofs.Lists.{over-snoc, over-set}
 use lib.ListN.{length-replicate, replicate-append-replicate}
 use Rattle.memory.proofs.read_counter.Statement.{statement}
 use Rattle.memory.proofs.read_counter.Tie as tie
-use Rattle.memory.proofs.read_counter.Reads as reads
-use Rattle.memory.proofs.read_counter.Lts as lts
 
 abbrev Inv-loop : tie.InvT-loop
 Inv-loop image counter n out₀ i₀ out i = (1 ≤ i) × (i ≤ n) × (length out ≡ length out₀) × (out ≡ over (byte image counter ∷ replicate (i - 1) 0) out₀)
@@ -54,12 +49,11 @@ loop-again c =
     let long : length (b ∷ replicate (l .i - 1) 0) ≡ l .i = omega (arith, length-replicate {A = ℕ} (l .i - 1) 0) in
     let room : l .i < length d = omega (arith, length-set (a .out .now) 0 b) in
     let zeros : replicate {A = ℕ} (l .i - 1) 0 ++ (0 ∷ []) ≡ replicate {A = ℕ} (l .i + 1 - 1) 0 =
-        let e : l .i - 1 + 1 ≡ l .i + 1 - 1 = omega arith in replicate-append-replicate {A = ℕ} (l .i - 1) 1 0 ∙ ap (λ (m : ℕ). replicate {A = ℕ} m 0) e in
-    (
-        omega arith,
-        omega arith,
-        simp length-set (l .inv .2 ∙ simp length-set),
-        ap (λ (t : List ℕ). set t (l .i) 0) (l .inv .3) ∙ over-snoc (b ∷ replicate (l .i - 1) 0) d 0 (l .i) long room ∙ ap (λ (t : List ℕ). over (b ∷ t) d) zeros
+    let e : l .i - 1 + 1 ≡ l .i + 1 - 1 = omega arith in replicate-append-replicate {A = ℕ} (l .i - 1) 1 0 ∙ ap (λ (m : ℕ). replicate {A = ℕ} m 0) e in (
+      omega arith,
+      omega arith,
+      simp length-set (l .inv .2 ∙ simp length-set),
+      ap (λ (t : List ℕ). set t (l .i) 0) (l .inv .3) ∙ over-snoc (b ∷ replicate (l .i - 1) 0) d 0 (l .i) long room ∙ ap (λ (t : List ℕ). over (b ∷ t) d) zeros,
     )
 
 same-length : tie.Need-same-length Inv-loop μ-loop

@@ -1,21 +1,12 @@
 -- `read_eight` meets its contract: eight bits are a part of the two bytes they stand in.
 use borrow.Author.Needs.{needs}
-use mathlib.Core.Path.{_≡_, refl, sym, ap, ap₂, _∙_, subst}
-use mathlib.Core.Bool.{Bool, true, false, not}
+use mathlib.Core.Path.{_≡_, sym, ap₂, _∙_}
 use native.Mathlib.Omega.{arith}
-use Prim.Native.Nat.{ℕ, _+_, _-_, _*_, _/_, _%_, _^_, _≤_, _<_}
-use borrow.Author.Tests.{eq-eqb, ne-eqb, le-leb, lt-leb, not-true, not-false}
-use lib.ListN.{length, take, drop, set, getD, replicate, length-set, length-take, length-drop}
-use mathlib.Core.List.{List, [], _∷_, _++_}
-use Rattle.words.proofs.Choices.{first, rest, taken, passed, and-fails, and-holds}
-use Rattle.words.specs.Bytes.{byte, over, same}
+use Prim.Native.Nat.{ℕ, _+_, _*_, _/_, _%_, _^_, _<_}
+use Rattle.words.specs.Bytes.{byte}
 use Rattle.memory.proofs.PackLaws.{packed-eight}
 use Rattle.memory.proofs.read_eight.Statement.{statement}
 use Rattle.memory.proofs.read_eight.Tie as tie
-use Rattle.memory.proofs.read_eight.Reads as reads
-use Rattle.memory.proofs.read_eight.Lts as lts
-use Rattle.words.proofs.byte_at.Reads as byte-at-reads
-use Rattle.words.proofs.wide.Reads as wide-reads
 
 add-from : tie.Need-add-from
 add-from c = search needs

@@ -1,20 +1,10 @@
 -- `spend_try` meets its contract: the counter is stored, with a try spent.
 use borrow.Author.Needs.{needs}
-use mathlib.Core.Path.{_≡_, refl, sym, ap, ap₂, _∙_, subst}
-use mathlib.Core.Bool.{Bool, true, false, not}
-use native.Mathlib.Omega.{arith}
-use Prim.Native.Nat.{ℕ, _+_, _-_, _*_, _/_, _%_, _^_, _≤_, _<_}
-use borrow.Author.Tests.{eq-eqb, ne-eqb, le-leb, lt-leb, not-true, not-false}
-use lib.ListN.{length, take, drop, set, getD, replicate, length-set, length-take, length-drop}
-use mathlib.Core.List.{List, [], _∷_, _++_}
-use Rattle.words.proofs.Choices.{first, rest, taken, passed, and-fails, and-holds}
-use Rattle.words.specs.Bytes.{byte, over, same}
+use mathlib.Core.Path.{ap}
+use lib.ListN.{set}
 use Rattle.memory.specs.Codes.{spending}
 use Rattle.memory.proofs.spend_try.Statement.{statement}
 use Rattle.memory.proofs.spend_try.Tie as tie
-use Rattle.memory.proofs.spend_try.Reads as reads
-use Rattle.memory.proofs.spend_try.Lts as lts
-use Rattle.card.proofs.spend.Reads as spend-reads
 
 slice-read-spend : tie.Need-slice-read-spend
 slice-read-spend c = search needs

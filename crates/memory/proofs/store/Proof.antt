@@ -1,22 +1,16 @@
 -- `store` meets its contract: the lent tail comes back with the data laid over it.
 use borrow.Author.Needs.{needs}
-use mathlib.Core.Path.{_≡_, refl, sym, ap, ap₂, _∙_, subst}
-use mathlib.Core.Bool.{Bool, true, false, not}
+use mathlib.Core.Path.{sym, ap, _∙_}
 use native.Mathlib.Omega.{arith}
-use Prim.Native.Nat.{ℕ, _+_, _-_, _*_, _/_, _%_, _^_, _≤_, _<_}
-use borrow.Author.Tests.{eq-eqb, ne-eqb, le-leb, lt-leb, not-true, not-false}
-use lib.ListN.{length, take, drop, set, getD, replicate, length-set, length-take, length-drop}
-use mathlib.Core.List.{List, [], _∷_, _++_}
-use Rattle.words.proofs.Choices.{first, rest, taken, passed, and-fails, and-holds}
-use Rattle.words.specs.Bytes.{byte, over, same}
+use Prim.Native.Nat.{ℕ, _+_}
+use lib.ListN.{length, take, drop}
+use mathlib.Core.List.{List, _++_}
+use Rattle.words.specs.Bytes.{over}
 use mathlib.Core.List.{append-assoc}
-use lib.Seq.{sets, sets-eq, drop-drop}
+use lib.Seq.{sets-eq, drop-drop}
 use Rattle.words.proofs.Lists.{lent-tail}
 use Rattle.memory.proofs.store.Statement.{statement}
 use Rattle.memory.proofs.store.Tie as tie
-use Rattle.memory.proofs.store.Reads as reads
-use Rattle.memory.proofs.store.Lts as lts
-use Rattle.words.proofs.lay.Reads as lay-reads
 
 sub-lay : tie.Need-sub-lay
 sub-lay c = search needs

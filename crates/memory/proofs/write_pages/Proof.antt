@@ -1,22 +1,11 @@
 -- `write_pages` meets its contract: where nothing runs round, a page write is a store.
 use borrow.Author.Needs.{needs}
-use mathlib.Core.Path.{_≡_, refl, sym, ap, ap₂, _∙_, subst}
-use mathlib.Core.Bool.{Bool, true, false, not}
+use mathlib.Core.Path.{sym, _∙_}
 use native.Mathlib.Omega.{arith}
-use Prim.Native.Nat.{ℕ, _+_, _-_, _*_, _/_, _%_, _^_, _≤_, _<_}
-use borrow.Author.Tests.{eq-eqb, ne-eqb, le-leb, lt-leb, not-true, not-false}
-use lib.ListN.{length, take, drop, set, getD, replicate, length-set, length-take, length-drop}
-use mathlib.Core.List.{List, [], _∷_, _++_}
-use Rattle.words.proofs.Choices.{first, rest, taken, passed, and-fails, and-holds}
-use Rattle.words.specs.Bytes.{byte, over, same}
-use Rattle.memory.specs.Pages.{pageWrite}
+use Rattle.words.proofs.Choices.{taken}
 use Rattle.memory.proofs.PageLaws.{page-stores}
 use Rattle.memory.proofs.write_pages.Statement.{statement}
 use Rattle.memory.proofs.write_pages.Tie as tie
-use Rattle.memory.proofs.write_pages.Reads as reads
-use Rattle.memory.proofs.write_pages.Lts as lts
-use Rattle.memory.proofs.store.Reads as store-reads
-use Rattle.memory.proofs.write_round.Reads as write-round-reads
 
 rem-if1 : tie.Need-rem-if1
 rem-if1 c = search needs

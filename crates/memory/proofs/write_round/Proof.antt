@@ -1,23 +1,14 @@
 -- `write_round` meets its contract. The loop's invariant: what is left to write gives the whole.
 use borrow.Author.Needs.{needs}
-use mathlib.Core.Path.{_≡_, refl, sym, ap, ap₂, _∙_, subst}
-use mathlib.Core.Bool.{Bool, true, false, not}
+use mathlib.Core.Path.{_≡_, refl, sym, ap, _∙_}
 use native.Mathlib.Omega.{arith}
-use Prim.Native.Nat.{ℕ, _+_, _-_, _*_, _/_, _%_, _^_, _≤_, _<_}
-use borrow.Author.Tests.{eq-eqb, ne-eqb, le-leb, lt-leb, not-true, not-false}
-use lib.ListN.{length, take, drop, set, getD, replicate, length-set, length-take, length-drop}
-use mathlib.Core.List.{List, [], _∷_, _++_}
-use Rattle.words.proofs.Choices.{first, rest, taken, passed, and-fails, and-holds}
-use Rattle.words.specs.Bytes.{byte, over, same}
+use Prim.Native.Nat.{ℕ, _+_, _-_, _≤_, _<_}
+use lib.ListN.{length, drop, length-set}
 use native.Mathlib.Nat.{add-zero}
-use Rattle.memory.specs.Pages.{cutStart, lands, pageWrite}
+use Rattle.memory.specs.Pages.{pageWrite}
 use Rattle.memory.proofs.PageLaws.{cut-le, lands-inside, write-step, write-end}
 use Rattle.memory.proofs.write_round.Statement.{statement}
 use Rattle.memory.proofs.write_round.Tie as tie
-use Rattle.memory.proofs.write_round.Reads as reads
-use Rattle.memory.proofs.write_round.Lts as lts
-use Rattle.memory.proofs.cut_start.Reads as cut-start-reads
-use Rattle.memory.proofs.landing.Reads as landing-reads
 
 abbrev Inv-loop : tie.InvT-loop
 Inv-loop image₀ at «data» reader chip start₀ i₀ image start i = (i ≤ length «data») × (start ≤ at + i) × (length image ≡ length image₀) × (pageWrite reader chip image₀ at at «data» ≡ pageWrite reader chip image start (at + i) (drop i «data»))
@@ -66,12 +57,11 @@ loop-again : tie.Need-loop-again Inv-loop μ-loop
 loop-again c =
     let a = c .before .before .before .before .before .before .before .args in
     let l = c .before .before .before .before .loop in
-    let h : c .before .before .cut-start .result ≤ a .at + l .i = rw (c .before .before .cut-start .ensures) (cut-le (a .reader) (l .start) (a .at + l .i) (omega arith)) in
-    (
-        omega arith,
-        omega (arith, h),
-        simp length-set (l .inv .2),
-        l .inv .3 ∙ write-step (a .reader) (a .chip) (l .image) (l .start) (a .at) (l .i) (a .«data» .now) (omega arith) ∙ rw (← (c .before .before .cut-start .ensures), ← (c .before .landing .ensures))
+    let h : c .before .before .cut-start .result ≤ a .at + l .i = rw (c .before .before .cut-start .ensures) (cut-le (a .reader) (l .start) (a .at + l .i) (omega arith)) in (
+      omega arith,
+      omega (arith, h),
+      simp length-set (l .inv .2),
+      l .inv .3 ∙ write-step (a .reader) (a .chip) (l .image) (l .start) (a .at) (l .i) (a .«data» .now) (omega arith) ∙ rw (← (c .before .before .cut-start .ensures), ← (c .before .landing .ensures)),
     )
 
 same-length : tie.Need-same-length Inv-loop μ-loop
@@ -83,7 +73,7 @@ returns c =
     let l = c .before .loop in
     let e : l .i ≡ length (a .«data» .now) = omega arith in
     sym (l .inv .3 ∙ ap (λ (k : ℕ). pageWrite (a .reader) (a .chip) (l .image) (l .start) (a .at + k) (drop k (a .«data» .now))) e
-        ∙ write-end (a .reader) (a .chip) (l .image) (l .start) (a .at + length (a .«data» .now)) (a .«data» .now))
+    ∙ write-end (a .reader) (a .chip) (l .image) (l .start) (a .at + length (a .«data» .now)) (a .«data» .now))
 
 pub write-round-spec : {M : Type 1} → statement M
 write-round-spec =

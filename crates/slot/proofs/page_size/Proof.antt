@@ -1,18 +1,10 @@
 -- `page_size` meets its contract: the five pages are the rule's, and the ranges are none of them.
-use borrow.Author.Needs.{needs}
-use mathlib.Core.Path.{_≡_, refl, sym, ap, _∙_}
-use mathlib.Core.Bool.{Bool, true, false, not}
-use native.Mathlib.Omega.{arith}
-use Prim.Native.Nat.{ℕ, _+_, _-_, _≤_, _<_}
-use borrow.Author.Tests.{eq-eqb, ne-eqb, le-leb, lt-leb, not-true, not-false}
-use Rattle.words.proofs.Choices.{and-fails, and-holds, or-taken, or-passed, means-off, means-on, taken, passed}
-use Rattle.words.specs.Choice.{_is_, _and_}
-use Rattle.words.specs.Choice.{_or_}
+use mathlib.Core.Path.{sym, ap}
+use borrow.Author.Tests.{ne-eqb}
+use Rattle.words.specs.Choice.{_and_, _or_}
 use Rattle.slot.specs.Slots.{pageSize}
 use Rattle.slot.proofs.page_size.Statement.{statement}
 use Rattle.slot.proofs.page_size.Tie as tie
-use Rattle.slot.proofs.page_size.Reads as reads
-use Rattle.slot.proofs.page_size.Lts as lts
 
 returns : tie.Need-returns
 unfolding pageSize _or_

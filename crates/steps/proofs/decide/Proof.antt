@@ -1,39 +1,19 @@
 -- `decide` meets its contract: each arm is its instruction, and the ranges are none of them.
 use borrow.Author.Needs.{needs}
-use mathlib.Core.Path.{_≡_, refl, sym, ap, ap₂, _∙_, subst}
-use mathlib.Core.Bool.{Bool, true, false, not}
+use mathlib.Core.Path.{_≡_, refl, ap}
+use mathlib.Core.Bool.{not}
 use native.Mathlib.Omega.{arith}
-use Prim.Native.Nat.{ℕ, _+_, _-_, _*_, _/_, _%_, _^_, _≤_, _<_}
-use borrow.Author.Tests.{eq-eqb, ne-eqb, le-leb, lt-leb, lt-ltb, le-ltb, not-true, not-false}
-use lib.ListN.{length, take, drop, set, getD, replicate, length-set, length-take, length-drop, length-append}
-use mathlib.Core.List.{List, [], _∷_, _++_}
-use Rattle.words.proofs.Choices.{first, rest, taken, met, passed, and-fails, and-holds, or-taken, or-passed}
-use Rattle.words.specs.Choice.{_⇒_⁏_, _and_, _or_, _is_, _isnt_}
-use Rattle.words.specs.Bytes.{byte, over, same}
-use Rattle.words.proofs.Lists.{over-pair, over-two}
+use borrow.Author.Tests.{ne-eqb, le-ltb}
+use lib.ListN.{length}
+use Rattle.words.proofs.Choices.{rest, taken, passed}
+use Rattle.words.specs.Choice.{_and_, _is_, _⇒_⁏_}
+use Rattle.words.specs.Bytes.{byte}
 use Rattle.card.specs.Kinds.{facts}
-use Rattle.card.proofs.KindLaws.{laid, coded, Paged, paged}
-use Rattle.steps.specs.Steps.{steps, wordOf, insOf, order, Other}
-use Rattle.slot.specs.Slots.{selecting, opened, closed}
-use Rattle.slot.specs.declared.Slot.{Slot}
+use Rattle.steps.specs.Steps.{steps, insOf, order, Other}
 use Rattle.steps.specs.Steps.{place, p3}
 use Rattle.steps.proofs.Decisions.{order-at}
 use Rattle.steps.proofs.decide.Statement.{statement}
 use Rattle.steps.proofs.decide.Tie as tie
-use Rattle.steps.proofs.decide.Reads as reads
-use Rattle.steps.proofs.decide.Lts as lts
-use Rattle.steps.proofs.bits_order.Reads as bits-order-reads
-use Rattle.steps.proofs.change_order.Reads as change-order-reads
-use Rattle.steps.proofs.counter_order.Reads as counter-order-reads
-use Rattle.steps.proofs.page_order.Reads as page-order-reads
-use Rattle.steps.proofs.place_of.Reads as place-of-reads
-use Rattle.steps.proofs.present_order.Reads as present-order-reads
-use Rattle.steps.proofs.protect_order.Reads as protect-order-reads
-use Rattle.steps.proofs.read_order.Reads as read-order-reads
-use Rattle.steps.proofs.select_order.Reads as select-order-reads
-use Rattle.steps.proofs.write_order.Reads as write-order-reads
-use Rattle.words.proofs.byte_at.Reads as byte-at-reads
-use Rattle.words.proofs.wide.Reads as wide-reads
 
 shared-slice-read-if1 : tie.Need-shared-slice-read-if1
 shared-slice-read-if1 c = search needs

@@ -1,31 +1,14 @@
 -- `hits_protected` meets its contract: a place was found, or none.
 use borrow.Author.Needs.{needs}
-use mathlib.Core.Path.{_≡_, refl, sym, ap, ap₂, _∙_, subst}
-use mathlib.Core.Bool.{Bool, true, false, not}
+use mathlib.Core.Path.{_≡_, sym, ap, _∙_}
 use native.Mathlib.Omega.{arith}
-use Prim.Native.Nat.{ℕ, _+_, _-_, _*_, _/_, _%_, _^_, _≤_, _<_}
-use borrow.Author.Tests.{eq-eqb, ne-eqb, le-leb, lt-leb, lt-ltb, le-ltb, not-true, not-false}
-use lib.Dec.{leb, ltb, eqb}
-use lib.ListN.{length, take, drop, set, getD, replicate, length-set, length-take, length-drop}
-use mathlib.Core.List.{List, [], _∷_, _++_}
-use Rattle.words.proofs.Choices.{first, rest, taken, met, passed, and-fails, and-holds, or-taken, or-passed}
-use Rattle.words.specs.Choice.{_⇒_⁏_, _and_, _or_, _is_, _isnt_}
-use Rattle.words.specs.Bytes.{byte, over, same}
+use Rattle.words.specs.Choice.{_or_}
 use Rattle.card.specs.Kinds.{facts}
 use Rattle.card.proofs.KindLaws.{laid}
-use Rattle.steps.specs.Steps.{steps}
-use lib.Pow.{pow-mono}
-use Rattle.steps.specs.declared.Order.{Order}
 use Rattle.steps.specs.Steps.{found}
 use Rattle.card.specs.Protection.{firstProtected}
-use Rattle.card.specs.declared.Place.{Place}
 use Rattle.steps.proofs.hits_protected.Statement.{statement}
 use Rattle.steps.proofs.hits_protected.Tie as tie
-use Rattle.steps.proofs.hits_protected.Reads as reads
-use Rattle.steps.proofs.hits_protected.Lts as lts
-use Rattle.card.proofs.Chip.bits.Reads as bits-reads
-use Rattle.card.proofs.Chip.covered.Reads as covered-reads
-use Rattle.card.proofs.first_protected.Reads as first-protected-reads
 
 bits-requires : tie.Need-bits-requires
 bits-requires c κs = search needs

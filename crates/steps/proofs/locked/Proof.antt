@@ -1,26 +1,10 @@
 -- `locked` meets its contract: its tests are the rule's.
 use borrow.Author.Needs.{needs}
-use mathlib.Core.Path.{_≡_, refl, sym, ap, ap₂, _∙_, subst}
-use mathlib.Core.Bool.{Bool, true, false, not}
-use native.Mathlib.Omega.{arith}
-use Prim.Native.Nat.{ℕ, _+_, _-_, _*_, _/_, _%_, _^_, _≤_, _<_}
-use borrow.Author.Tests.{eq-eqb, ne-eqb, le-leb, lt-leb, lt-ltb, le-ltb, not-true, not-false}
-use lib.Dec.{leb, ltb, eqb}
-use lib.ListN.{length, take, drop, set, getD, replicate, length-set, length-take, length-drop}
-use mathlib.Core.List.{List, [], _∷_, _++_}
-use Rattle.words.proofs.Choices.{first, rest, taken, met, passed, and-fails, and-holds, or-taken, or-passed}
-use Rattle.words.specs.Choice.{_⇒_⁏_, _and_, _or_, _is_, _isnt_}
-use Rattle.words.specs.Bytes.{byte, over, same}
-use Rattle.card.specs.Kinds.{facts}
-use Rattle.card.proofs.KindLaws.{laid}
-use Rattle.steps.specs.Steps.{steps}
-use lib.Pow.{pow-mono}
-use Rattle.steps.specs.declared.Order.{Order}
+use mathlib.Core.Path.{refl, sym, _∙_}
+use borrow.Author.Tests.{not-true, not-false}
+use Rattle.words.proofs.Choices.{taken, and-fails, and-holds}
 use Rattle.steps.proofs.locked.Statement.{statement}
 use Rattle.steps.proofs.locked.Tie as tie
-use Rattle.steps.proofs.locked.Reads as reads
-use Rattle.steps.proofs.locked.Lts as lts
-use Rattle.card.proofs.Chip.coded.Reads as coded-reads
 
 coded-requires : tie.Need-coded-requires
 coded-requires c κs = search needs

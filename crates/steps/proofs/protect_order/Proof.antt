@@ -1,28 +1,16 @@
 -- `protect_order` meets its contract: its tests are the steps, in their order.
+use Rattle.words.specs.Choice.{_and_}
 use borrow.Author.Needs.{needs}
-use mathlib.Core.Path.{_≡_, refl, sym, ap, ap₂, _∙_, subst}
-use mathlib.Core.Bool.{Bool, true, false, not}
+use mathlib.Core.Path.{refl, sym, ap, _∙_}
+use mathlib.Core.Bool.{Bool, not}
 use native.Mathlib.Omega.{arith}
-use Prim.Native.Nat.{ℕ, _+_, _-_, _*_, _/_, _%_, _^_, _≤_, _<_}
-use borrow.Author.Tests.{eq-eqb, ne-eqb, le-leb, lt-leb, lt-ltb, le-ltb, not-true, not-false}
-use lib.Dec.{leb, ltb, eqb}
-use lib.ListN.{length, take, drop, set, getD, replicate, length-set, length-take, length-drop}
-use mathlib.Core.List.{List, [], _∷_, _++_}
-use Rattle.words.proofs.Choices.{first, rest, taken, met, passed, and-fails, and-holds, or-taken, or-passed}
-use Rattle.words.specs.Choice.{_⇒_⁏_, _and_, _or_, _is_, _isnt_}
-use Rattle.words.specs.Bytes.{byte, over, same}
+use Prim.Native.Nat.{_+_}
+use borrow.Author.Tests.{eq-eqb, ne-eqb, le-leb, lt-leb}
+use Rattle.words.proofs.Choices.{taken, passed}
 use Rattle.card.specs.Kinds.{facts}
-use Rattle.card.proofs.KindLaws.{laid}
 use Rattle.steps.specs.Steps.{steps}
-use lib.Pow.{pow-mono}
-use Rattle.steps.specs.declared.Order.{Order}
 use Rattle.steps.proofs.protect_order.Statement.{statement}
 use Rattle.steps.proofs.protect_order.Tie as tie
-use Rattle.steps.proofs.protect_order.Reads as reads
-use Rattle.steps.proofs.protect_order.Lts as lts
-use Rattle.card.proofs.Chip.covered.Reads as covered-reads
-use Rattle.card.proofs.Chip.reach.Reads as reach-reads
-use Rattle.steps.proofs.locked.Reads as locked-reads
 
 returns : tie.Need-returns
 unfolding steps _and_

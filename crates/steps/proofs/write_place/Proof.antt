@@ -1,27 +1,14 @@
 -- `write_place` meets its contract: its tests are the rule's.
 use borrow.Author.Needs.{needs}
-use mathlib.Core.Path.{_≡_, refl, sym, ap, ap₂, _∙_, subst}
-use mathlib.Core.Bool.{Bool, true, false, not}
+use mathlib.Core.Path.{ap}
 use native.Mathlib.Omega.{arith}
-use Prim.Native.Nat.{ℕ, _+_, _-_, _*_, _/_, _%_, _^_, _≤_, _<_}
-use borrow.Author.Tests.{eq-eqb, ne-eqb, le-leb, lt-leb, lt-ltb, le-ltb, not-true, not-false}
-use lib.Dec.{leb, ltb, eqb}
-use lib.ListN.{length, take, drop, set, getD, replicate, length-set, length-take, length-drop}
-use mathlib.Core.List.{List, [], _∷_, _++_}
-use Rattle.words.proofs.Choices.{first, rest, taken, met, passed, and-fails, and-holds, or-taken, or-passed}
-use Rattle.words.specs.Choice.{_⇒_⁏_, _and_, _or_, _is_, _isnt_}
-use Rattle.words.specs.Bytes.{byte, over, same}
+use Prim.Native.Nat.{ℕ, _+_}
+use borrow.Author.Tests.{le-leb, lt-leb}
+use lib.Dec.{ltb}
+use Rattle.words.proofs.Choices.{taken, and-fails, and-holds, or-taken, or-passed}
 use Rattle.card.specs.Kinds.{facts}
-use Rattle.card.proofs.KindLaws.{laid}
-use Rattle.steps.specs.Steps.{steps}
-use lib.Pow.{pow-mono}
-use Rattle.steps.specs.declared.Order.{Order}
 use Rattle.steps.proofs.write_place.Statement.{statement}
 use Rattle.steps.proofs.write_place.Tie as tie
-use Rattle.steps.proofs.write_place.Reads as reads
-use Rattle.steps.proofs.write_place.Lts as lts
-use Rattle.card.proofs.Chip.counter.Reads as counter-reads
-use Rattle.card.proofs.Chip.memory.Reads as memory-reads
 
 memory-requires : tie.Need-memory-requires
 memory-requires c κs = search needs

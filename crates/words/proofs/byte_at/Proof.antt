@@ -1,12 +1,9 @@
 -- `byte_at` meets its contract: beyond the end, the default is 0.
 use borrow.Author.Needs.{needs}
-use mathlib.Core.Path.{_≡_, refl, sym, ap, _∙_}
+use mathlib.Core.Path.{sym}
 use lib.ListN.{List·getD-eq-default}
-use native.Mathlib.Omega.{arith}
 use Rattle.words.proofs.byte_at.Statement.{statement}
 use Rattle.words.proofs.byte_at.Tie as tie
-use Rattle.words.proofs.byte_at.Reads as reads
-use Rattle.words.proofs.byte_at.Lts as lts
 
 shared-slice-read-result : tie.Need-shared-slice-read-result
 shared-slice-read-result c = search needs

@@ -4,9 +4,6 @@ use native.Mathlib.Omega.{arith}
 use Rattle.words.specs.Bytes.{fourAt}
 use Rattle.words.proofs.four_at.Statement.{statement}
 use Rattle.words.proofs.four_at.Tie as tie
-use Rattle.words.proofs.four_at.Reads as reads
-use Rattle.words.proofs.four_at.Lts as lts
-use Rattle.words.proofs.wide.Reads as wide-reads
 
 shared-slice-read-wide : tie.Need-shared-slice-read-wide
 shared-slice-read-wide c = search needs

@@ -1,8 +1,8 @@
 -- `lay` meets its contract. The loop's invariant: so many bytes of the source, and behind them the buffer as it was.
 use borrow.Author.Needs.{needs}
-use mathlib.Core.Path.{_≡_, refl, sym, ap, _∙_}
+use mathlib.Core.Path.{_≡_, ap, _∙_}
 use native.Mathlib.Omega.{arith}
-use Prim.Native.Nat.{ℕ, _+_, _-_, _≤_, _<_}
+use Prim.Native.Nat.{ℕ, _-_, _≤_}
 use mathlib.Core.List.{List, _++_}
 use lib.ListN.{length, take, drop, set, getD, length-set}
 use lib.Seq.{take-length}
@@ -10,8 +10,6 @@ use Rattle.words.specs.Bytes.{over}
 use Rattle.words.proofs.Lists.{copy-more}
 use Rattle.words.proofs.lay.Statement.{statement}
 use Rattle.words.proofs.lay.Tie as tie
-use Rattle.words.proofs.lay.Reads as reads
-use Rattle.words.proofs.lay.Lts as lts
 
 abbrev Inv-loop : tie.InvT-loop
 Inv-loop src dst₀ i₀ dst i = (i ≤ length src) × (length dst ≡ length dst₀) × (dst ≡ take i src ++ drop i dst₀)
@@ -38,11 +36,10 @@ loop-again : tie.Need-loop-again Inv-loop μ-loop
 loop-again c =
     let l = c .before .before .loop in
     let s = c .before .before .before .args .src .now in
-    let d = c .before .before .before .args .dst .now in
-    (
-        omega arith,
-        simp length-set (l .inv .1),
-        ap (λ (t : List ℕ). set t (l .i) (getD s (l .i) 0)) (l .inv .2) ∙ copy-more (l .i) s d (omega arith) (omega arith)
+    let d = c .before .before .before .args .dst .now in (
+      omega arith,
+      simp length-set (l .inv .1),
+      ap (λ (t : List ℕ). set t (l .i) (getD s (l .i) 0)) (l .inv .2) ∙ copy-more (l .i) s d (omega arith) (omega arith),
     )
 
 same-length : tie.Need-same-length Inv-loop μ-loop

@@ -4,8 +4,6 @@ use native.Mathlib.Omega.{arith}
 use lib.ListN.{length-set}
 use Rattle.words.proofs.put_two.Statement.{statement}
 use Rattle.words.proofs.put_two.Tie as tie
-use Rattle.words.proofs.put_two.Reads as reads
-use Rattle.words.proofs.put_two.Lts as lts
 
 slice-write-out : tie.Need-slice-write-out
 slice-write-out c = search needs

@@ -2,17 +2,14 @@
 use borrow.Author.Needs.{needs}
 use mathlib.Core.Path.{_≡_, refl, sym, ap, _∙_}
 use native.Mathlib.Omega.{arith}
-use Prim.Native.Nat.{ℕ, _+_, _-_, _≤_, _<_}
+use Prim.Native.Nat.{ℕ, _-_, _≤_}
 use lib.ListN.{length, drop}
 use borrow.Author.Tests.{eq-eqb, ne-eqb}
-use Rattle.words.specs.Bytes.{same, byte}
+use Rattle.words.specs.Bytes.{same}
 use Rattle.words.proofs.Choices.{and-fails, and-holds}
 use Rattle.words.proofs.Lists.{same-step, same-end}
-use mathlib.Core.Bool.{Bool}
 use Rattle.words.proofs.same_bytes.Statement.{statement}
 use Rattle.words.proofs.same_bytes.Tie as tie
-use Rattle.words.proofs.same_bytes.Reads as reads
-use Rattle.words.proofs.same_bytes.Lts as lts
 
 abbrev Inv-loop : tie.InvT-loop
 Inv-loop a b i₀ i = (i ≤ length a) × (same a b ≡ same (drop i a) (drop i b))

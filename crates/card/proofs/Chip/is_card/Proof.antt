@@ -1,9 +1,9 @@
 -- `is_card` meets its contract: its three tests are the rule's, in its order.
 use borrow.Author.Needs.{needs}
-use mathlib.Core.Path.{_≡_, refl, sym, ap, _∙_}
+use mathlib.Core.Path.{_≡_, sym, ap, _∙_}
 use native.Mathlib.Omega.{arith}
 use borrow.Author.Tests.{eq-eqb, ne-eqb, le-leb, lt-leb}
-use Rattle.words.proofs.Choices.{and-fails, and-holds, taken, passed}
+use Rattle.words.proofs.Choices.{and-fails, and-holds, taken}
 use mathlib.Core.Bool.{not}
 use Rattle.words.specs.Bytes.{byte}
 use Rattle.card.specs.Kinds.{facts}
@@ -12,15 +12,6 @@ use Rattle.card.specs.Images.{isCard}
 use Rattle.card.proofs.KindLaws.{laid}
 use Rattle.card.proofs.Chip.is_card.Statement.{statement}
 use Rattle.card.proofs.Chip.is_card.Tie as tie
-use Rattle.card.proofs.Chip.is_card.Reads as reads
-use Rattle.card.proofs.Chip.is_card.Lts as lts
-use Rattle.card.proofs.Chip.bits.Reads as bits-reads
-use Rattle.card.proofs.Chip.counter.Reads as counter-reads
-use Rattle.card.proofs.Chip.covered.Reads as covered-reads
-use Rattle.card.proofs.Chip.full.Reads as full-reads
-use Rattle.card.proofs.Chip.size.Reads as size-reads
-use Rattle.card.proofs.protected.Reads as protected-reads
-use Rattle.words.proofs.byte_at.Reads as byte-at-reads
 
 size-requires : tie.Need-size-requires
 size-requires c κs = search needs

@@ -1,23 +1,12 @@
 -- `full_code` meets its contract: its tests are the rule's.
 use borrow.Author.Needs.{needs}
-use mathlib.Core.Path.{_≡_, refl, sym, ap, _∙_}
-use mathlib.Core.Bool.{Bool, true, false, not}
-use native.Mathlib.Omega.{arith}
-use Prim.Native.Nat.{ℕ, _+_, _-_, _≤_, _<_}
-use borrow.Author.Tests.{eq-eqb, ne-eqb, le-leb, lt-leb, not-true, not-false}
-use Rattle.words.proofs.Choices.{and-fails, and-holds, or-taken, or-passed, means-off, means-on, taken, passed}
-use Rattle.words.specs.Choice.{_is_, _and_}
+use mathlib.Core.Path.{sym, ap, _∙_}
+use borrow.Author.Tests.{not-true, not-false}
+use Rattle.words.proofs.Choices.{and-fails, and-holds, taken}
 use Rattle.slot.specs.Slots.{fullCode}
 use Rattle.slot.specs.declared.Holds.{Holds}
-use Rattle.words.specs.Bytes.{byte}
 use Rattle.slot.proofs.Slot.full_code.Statement.{statement}
 use Rattle.slot.proofs.Slot.full_code.Tie as tie
-use Rattle.slot.proofs.Slot.full_code.Reads as reads
-use Rattle.slot.proofs.Slot.full_code.Lts as lts
-use Rattle.card.proofs.Chip.coded.Reads as coded-reads
-use Rattle.card.proofs.Chip.counter.Reads as counter-reads
-use Rattle.card.proofs.Chip.full.Reads as full-reads
-use Rattle.words.proofs.byte_at.Reads as byte-at-reads
 
 enum-known-holds : tie.Need-enum-known-holds
 enum-known-holds c = search needs

@@ -1,17 +1,11 @@
 -- `idle_sound` meets its contract: its tests are the rule's.
-use borrow.Author.Needs.{needs}
-use mathlib.Core.Path.{_≡_, refl, sym, ap, _∙_}
-use mathlib.Core.Bool.{Bool, true, false, not}
-use native.Mathlib.Omega.{arith}
-use Prim.Native.Nat.{ℕ, _+_, _-_, _≤_, _<_}
-use borrow.Author.Tests.{eq-eqb, ne-eqb, le-leb, lt-leb, not-true, not-false}
-use Rattle.words.proofs.Choices.{and-fails, and-holds, or-taken, or-passed, means-off, means-on, taken, passed}
-use Rattle.words.specs.Choice.{_is_, _and_}
+use mathlib.Core.Path.{refl, ap}
+use mathlib.Core.Bool.{not}
+use borrow.Author.Tests.{eq-eqb, ne-eqb}
+use Rattle.words.proofs.Choices.{and-fails, and-holds, means-off, means-on, taken}
 use Rattle.slot.specs.Slots.{idleSound}
 use Rattle.slot.proofs.Slot.idle_sound.Statement.{statement}
 use Rattle.slot.proofs.Slot.idle_sound.Tie as tie
-use Rattle.slot.proofs.Slot.idle_sound.Reads as reads
-use Rattle.slot.proofs.Slot.idle_sound.Lts as lts
 
 returns : tie.Need-returns
 unfolding idleSound

@@ -1,22 +1,11 @@
 -- `is_sound` meets its contract: the five tests are the rule's, in its order.
 use borrow.Author.Needs.{needs}
-use mathlib.Core.Path.{_≡_, refl, sym, ap, _∙_}
-use mathlib.Core.Bool.{Bool, true, false, not}
-use native.Mathlib.Omega.{arith}
-use Prim.Native.Nat.{ℕ, _+_, _-_, _≤_, _<_}
-use borrow.Author.Tests.{eq-eqb, ne-eqb, le-leb, lt-leb, not-true, not-false}
-use Rattle.words.proofs.Choices.{and-fails, and-holds, or-taken, or-passed, means-off, means-on, taken, passed}
-use Rattle.words.specs.Choice.{_is_, _and_}
+use mathlib.Core.Path.{sym, _∙_}
+use borrow.Author.Tests.{not-true, not-false}
+use Rattle.words.proofs.Choices.{and-fails, and-holds, taken}
 use Rattle.slot.specs.Slots.{sound}
 use Rattle.slot.proofs.Slot.is_sound.Statement.{statement}
 use Rattle.slot.proofs.Slot.is_sound.Tie as tie
-use Rattle.slot.proofs.Slot.is_sound.Reads as reads
-use Rattle.slot.proofs.Slot.is_sound.Lts as lts
-use Rattle.slot.proofs.Slot.empty_sound.Reads as empty-sound-reads
-use Rattle.slot.proofs.Slot.idle_sound.Reads as idle-sound-reads
-use Rattle.slot.proofs.Slot.open_sound.Reads as open-sound-reads
-use Rattle.slot.proofs.Slot.type_sound.Reads as type-sound-reads
-use Rattle.slot.proofs.page_size.Reads as page-size-reads
 
 page-size-requires : tie.Need-page-size-requires
 page-size-requires c κs = search needs

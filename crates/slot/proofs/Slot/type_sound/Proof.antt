@@ -1,18 +1,13 @@
 -- `type_sound` meets its contract: its tests are the rule's.
 use borrow.Author.Needs.{needs}
-use mathlib.Core.Path.{_≡_, refl, sym, ap, _∙_}
-use mathlib.Core.Bool.{Bool, true, false, not}
-use native.Mathlib.Omega.{arith}
-use Prim.Native.Nat.{ℕ, _+_, _-_, _≤_, _<_}
-use borrow.Author.Tests.{eq-eqb, ne-eqb, le-leb, lt-leb, not-true, not-false}
-use Rattle.words.proofs.Choices.{and-fails, and-holds, or-taken, or-passed, means-off, means-on, taken, passed}
-use Rattle.words.specs.Choice.{_is_, _and_}
-use Rattle.slot.specs.Slots.{typeSound, ownType}
+use mathlib.Core.Path.{ap}
+use Prim.Native.Nat.{ℕ}
+use borrow.Author.Tests.{eq-eqb, ne-eqb}
+use Rattle.words.proofs.Choices.{or-taken, or-passed, taken}
+use Rattle.words.specs.Choice.{_is_}
+use Rattle.slot.specs.Slots.{typeSound}
 use Rattle.slot.proofs.Slot.type_sound.Statement.{statement}
 use Rattle.slot.proofs.Slot.type_sound.Tie as tie
-use Rattle.slot.proofs.Slot.type_sound.Reads as reads
-use Rattle.slot.proofs.Slot.type_sound.Lts as lts
-use Rattle.slot.proofs.Slot.own_type.Reads as own-type-reads
 
 returns : tie.Need-returns
 unfolding typeSound

@@ -1,0 +1,86 @@
+-- `insert` meets its contract: its tests are the rule's, 5 and then 3.
+use borrow.Author.Needs.{needs}
+use mathlib.Core.Path.{_≡_, refl, sym, ap, _∙_}
+use borrow.Author.Tests.{not-true, not-false}
+use mathlib.Core.List.{[]}
+use Rattle.words.proofs.Choices.{first, rest, taken}
+use Rattle.words.specs.Choice.{_and_}
+use Rattle.reader.specs.Exchange.{insertedAs, insertion}
+use Rattle.reader.proofs.Answers.{gives-is, gives-down}
+use Rattle.words.proofs.Lists.{over-none}
+use Rattle.reader.specs.declared.Refusal.{Refusal}
+use Rattle.card.specs.declared.Known.{Known}
+use Rattle.card.specs.Kinds.{chipOf}
+use Rattle.reader.proofs.insert.Statement.{statement}
+use Rattle.reader.proofs.insert.Tie as tie
+
+has-card-requires : tie.Need-has-card-requires
+has-card-requires c κs = search needs
+
+turn-down-requires : tie.Need-turn-down-requires
+turn-down-requires c κs = search needs
+
+returns : tie.Need-returns
+unfolding insertion
+returns c = gives-is (first _ _ (sym (c .before .before .has-card .ensures) ∙ c .before .if1 .taken)) (gives-down Refusal.Occupied (c .before .before .before .before .args .slot) (c .before .before .before .before .args .image .now) [] (c .turn-down .ensures .0) (c .turn-down .ensures .1))
+
+chip-of-requires : tie.Need-chip-of-requires
+chip-of-requires c κs = search needs
+
+enum-known-known : tie.Need-enum-known-known
+enum-known-known c = search needs
+
+enum-told : tie.Need-enum-told
+enum-told c = search needs
+
+turn-down-requires-2 : tie.Need-turn-down-requires-2
+turn-down-requires-2 c κs = search needs
+
+returns-2 : tie.Need-returns-2
+unfolding insertion insertedAs
+returns-2 c =
+    let a = c .before .before .before .before .before .before .before .args in
+    let k : chipOf (a .kind) ≡ Known.Unknown = sym (c .before .before .before .chip-of .ensures) ∙ c .before .enum-told .given .1 in
+    gives-is (rest _ _ (sym (c .before .before .before .before .before .has-card .ensures) ∙ c .before .before .before .before .if1 .left) ∙ ap (λ (x : Known). insertedAs x (a .slot) (a .image .now)) k) (gives-down Refusal.Image (a .slot) (a .image .now) [] (c .turn-down2 .ensures .0) (c .turn-down2 .ensures .1))
+
+is-card-requires : tie.Need-is-card-requires
+is-card-requires c κs = search needs
+
+turn-down-requires-3 : tie.Need-turn-down-requires-3
+turn-down-requires-3 c κs = search needs
+
+returns-3 : tie.Need-returns-3
+unfolding insertion insertedAs
+returns-3 c =
+    let a = c .before .before .before .before .before .before .before .before .before .before .args in
+    let k = sym (c .before .before .before .before .before .before .chip-of .ensures) ∙ c .before .before .before .before .known .given .1 in
+    gives-is (rest _ _ (sym (c .before .before .before .before .before .before .before .before .has-card .ensures) ∙ c .before .before .before .before .before .before .before .if1 .left) ∙ ap (λ (x : Known). insertedAs x (a .slot) (a .image .now)) k ∙ rest _ _ (sym (c .before .before .is-card .ensures) ∙ not-true _ (c .before .if2 .taken))) (gives-down Refusal.Image (a .slot) (a .image .now) [] (c .turn-down3 .ensures .0) (c .turn-down3 .ensures .1))
+
+insert-requires : tie.Need-insert-requires
+insert-requires c κs = search needs
+
+returns-4 : tie.Need-returns-4
+unfolding insertion insertedAs
+returns-4 c =
+    let a = c .before .before .before .before .before .before .before .before .before .before .args in
+    let k = sym (c .before .before .before .before .before .before .chip-of .ensures) ∙ c .before .before .before .before .known .given .1 in
+    gives-is (rest _ _ (sym (c .before .before .before .before .before .before .before .before .has-card .ensures) ∙ c .before .before .before .before .before .before .before .if1 .left) ∙ ap (λ (x : Known). insertedAs x (a .slot) (a .image .now)) k ∙ first _ _ (sym (c .before .before .is-card .ensures) ∙ not-false _ (c .before .if2 .left)))
+    (record { number = refl; len = refl; slot = c .insert .ensures; image = refl; buffer = sym (over-none []) })
+
+pub insert-spec : {M : Type 1} → statement M
+insert-spec =
+    tie.close
+    (tie.spec
+    has-card-requires
+    turn-down-requires
+    returns
+    chip-of-requires
+    enum-known-known
+    enum-told
+    turn-down-requires-2
+    returns-2
+    is-card-requires
+    turn-down-requires-3
+    returns-3
+    insert-requires
+    returns-4)
