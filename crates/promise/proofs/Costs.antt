@@ -25,7 +25,7 @@ use Rattle.reader.specs.Messages.{Request, Transfer, apdu, ready, faultOf, isCl
 use Rattle.reader.specs.Exchange.{Outcome}
 use Rattle.reader.specs.Runs.{Sent, sending, run}
 use Rattle.promise.specs.Proper.{Proper}
-use Rattle.promise.specs.Tries.{requested, faulted, none, wrong, heard, transfers, presents, reached, rightNow, eventOf, after, triesIn}
+use Rattle.promise.specs.Tries.{requested, faulted, none, wrong, heard, transfers, presents, reached, rightNow, eventOf, after, triesIn, costOfTwo}
 use Rattle.promise.proofs.Came.{Came, down, failed, done, came, heard-proper, heard-clear}
 use Rattle.promise.proofs.Kept.{exchange-holds, proper-kept}
 use Rattle.promise.proofs.Reached.{transfers-is, presents-is, reached-does, unreached-keeps, unreached-none, none-unreached, reached-event, wrong-reached}
@@ -87,7 +87,7 @@ module _ (chip : Chip) (c : facts chip .coded ≡ true) (s : Slot) (image : List
       reached-event f (then .slot) (then .image) m (reached-again (t .0)) ∙ rest _ _ (reached-code (t .0) ∙ t .1)
 
   -- bSeq is only echoed: the same message sent twice costs two tries, stopping at zero
-  pub equal-codes-cost-two : eventOf f s image m ≡ wrong → triesIn f (run s image (m ∷ m ∷ []) .image) ≡ triesIn f image - 2
+  pub equal-codes-cost-two : eventOf f s image m ≡ wrong → triesIn f (run s image (m ∷ m ∷ []) .image) ≡ triesIn f image - costOfTwo
   unfolding run
   equal-codes-cost-two e =
       let one : triesIn f (then .image) ≡ triesIn f image - 1 =

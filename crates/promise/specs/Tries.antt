@@ -159,3 +159,7 @@ runFrom s kind image ms = run (insertion s kind image .slot) (insertion s kind i
 
 abbrev pub historyFrom : Chip → Slot → ℕ → List ℕ → List Sent → List Event
 historyFrom chip s kind image ms = history (facts chip) (insertion s kind image .slot) (insertion s kind image .image) ms
+
+-- "each counted on its own even when equal to the last": what two equal wrong codes in a row cost
+abbrev pub costOfTwo : ℕ
+costOfTwo = 2

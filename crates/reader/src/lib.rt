@@ -99,11 +99,11 @@ fn transfer_fault(slot: Slot, msg: &[u8]) -> Fault
     requires { ⌜ 10 ≤ length (now msg) ⌝ }
     ensures { λ r. ⌜ r ≡ faultOf Transfer slot (now (msg .entry)) ⌝ }
 {
-    let n = four_at(msg, 1);
-    if n != msg.len() - 10 {
+    let length = four_at(msg, 1);
+    if length != msg.len() - 10 {
         return Fault::Length;
     }
-    if 261 < n {
+    if 261 < length {
         return Fault::Length;
     }
     if msg[5] != 0 {
