@@ -1,0 +1,61 @@
+-- "No answer is longer than 267 bytes": ten of the header, and at most 257 of data, P3 being a byte.
+use mathlib.Core.Path.{_≡_, refl, sym, ap, _∙_, subst⁻¹}
+use Prim.Native.Nat.{ℕ, _+_, _≤_, _<_}
+use mathlib.Core.Bool.{Bool, true, not}
+use mathlib.Core.List.{List, [], _∷_, _++_}
+use native.Mathlib.Omega.{arith}
+use lib.ListN.{length, take, length-append, length-take}
+use borrow.Author.Tests.{not-false}
+use Rattle.words.specs.Choice.{_⇒_⁏_}
+use Rattle.words.specs.Bytes.{fourBytes}
+use Rattle.words.proofs.Choices.{past, either}
+use Rattle.card.specs.Kinds.{Facts, facts}
+use Rattle.card.proofs.ImageLaws.{card-parts}
+use Rattle.slot.specs.declared.Slot.{Slot}
+use Rattle.slot.specs.declared.Holds.{Holds}
+use Rattle.slot.specs.declared.Holds.the-variants.{Empty, Card}
+use Rattle.slot.specs.Slots.{imageIsCard}
+use Rattle.steps.specs.Steps.{p3, body, order}
+use Rattle.steps.proofs.Decisions.{order-fits, order-short}
+use Rattle.command.specs.Orders.{Deed, commanded, performed}
+use Rattle.command.proofs.Lengths.{said-short}
+use Rattle.reader.specs.declared.Fault.{Fault}
+use Rattle.reader.specs.Messages.{Request, PowerOn, PowerOff, SlotStatus, Transfer, Unsupported, apdu, typeByte, requestOf, faultOf, isClear, header, answer}
+use Rattle.reader.specs.Exchange.{Outcome, reset, deed, replied, reply, exchange}
+
+reset-short : (f : Facts) (image : List ℕ) → length (reset f image) ≤ 257
+unfolding reset
+reset-short f image = either (λ (l : List ℕ). length l ≤ 257) _ (λ _. omega arith) (λ _. omega (arith, length-take 4 image))
+
+module _ (s : Slot) (image m : List ℕ) (byte : p3 (apdu m) < 256) where
+  deed-short : (r : Request) (h : Holds) → imageIsCard h image ≡ true → length (deed r h s image m .said) ≤ 257
+  unfolding deed commanded performed
+  deed-short PowerOn Empty e = omega arith
+  deed-short PowerOn (Card chip) e = reset-short (facts chip) image
+  deed-short PowerOff h e = omega arith
+  deed-short SlotStatus h e = omega arith
+  deed-short Transfer Empty e = omega arith
+  deed-short Transfer (Card chip) e =
+      said-short chip s image (body (apdu m)) (order (facts chip) s image (apdu m)) (card-parts (facts chip) image e .long)
+      (order-fits (facts chip) s image (apdu m)) (order-short (facts chip) s image (apdu m) byte)
+  deed-short Unsupported h e = omega arith
+
+  answer-whole : (r : Request) (f : Fault) (t : Slot) (said : List ℕ) → length said ≤ 257 → length (answer r m f t said) ≤ 267
+  unfolding answer header fourBytes
+  answer-whole r f t said h = omega arith
+
+  reply-short : (r : Request) → imageIsCard (s .holds) image ≡ true → length (reply r s image m .answer) ≤ 267
+  unfolding reply replied
+  reply-short r e =
+      either (λ (d : Deed). length (answer r m (faultOf r s m) (d .slot) (d .said)) ≤ 267) _
+      (λ _. answer-whole r (faultOf r s m) _ _ (deed-short r (s .holds) e))
+      (λ _. answer-whole r (faultOf r s m) s [] (omega arith))
+
+  pub answer-short : (room : ℕ) → length (exchange s image m room .answer) ≤ 267
+  unfolding exchange
+  answer-short room =
+      past (λ (o : Outcome). length (o .answer) ≤ 267) _ (omega arith) (λ _.
+      past (λ (o : Outcome). length (o .answer) ≤ 267) _ (omega arith) (λ _.
+      past (λ (o : Outcome). length (o .answer) ≤ 267) _ (omega arith) (λ e3.
+      past (λ (o : Outcome). length (o .answer) ≤ 267) _ (omega arith) (λ _.
+      reply-short (requestOf (typeByte m)) (not-false _ e3)))))

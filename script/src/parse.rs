@@ -1,0 +1,392 @@
+//! The script language: lines to records and expectations. docs/SCRIPTS.md has it in full.
+
+use crate::cards::{self, Kind};
+
+/// A fault in a script line.
+pub struct Fault {
+    pub line: usize,
+    pub text: String,
+}
+
+/// What a line asks for.
+pub enum Step {
+    Say(String),
+    Record { line: usize, source: String, record: Record },
+    Expect { line: usize, source: String, expected: Expected },
+}
+
+pub enum Record {
+    Insert {
+        told: String,
+        body: Vec<u8>,
+    },
+    Remove,
+    Message(Vec<u8>),
+    /// Bytes as they stand; the input ends after them.
+    Loose(Vec<u8>),
+}
+
+pub enum Expected {
+    /// The answer's data: all of them, or how they end.
+    Data(Vec<u8>),
+    DataEnd(Vec<u8>),
+    Nothing,
+    Error(u8),
+    /// The card state that the answer tells: 0 active, 1 inactive, 2 none.
+    State(u8),
+    Answer(Vec<u8>),
+    Refused(u8),
+    Done,
+    Bad,
+    Line(String),
+}
+
+impl Record {
+    /// The record as it stands on the session program's input.
+    pub fn bytes(&self) -> Vec<u8> {
+        let (mark, body): ([u8; 2], &[u8]) = match self {
+            Record::Insert { body, .. } => ([0x43, 0x49], body),
+            Record::Remove => ([0x43, 0x4f], &[]),
+            Record::Message(body) => ([0x4f, 0x4d], body),
+            Record::Loose(bytes) => return bytes.clone(),
+        };
+        let mut bytes = mark.to_vec();
+        bytes.extend_from_slice(&(body.len() as u16).to_le_bytes());
+        bytes.extend_from_slice(body);
+        bytes
+    }
+}
+
+/// The steps of a script, or its first fault.
+pub fn script(text: &str) -> Result<Vec<Step>, Fault> {
+    let mut parser = Parser { seq: 0, slot: 0, own_type: None, ended: false, recorded: false };
+    let mut steps = Vec::new();
+    for (number, whole) in text.lines().enumerate() {
+        let line = number + 1;
+        let fault = |text: String| Fault { line, text };
+        if let Some(said) = whole.trim().strip_prefix("say") {
+            if said.is_empty() || said.starts_with(char::is_whitespace) {
+                steps.push(Step::Say(said.trim().to_string()));
+                continue;
+            }
+        }
+        let source = whole.split('#').next().unwrap_or("").trim().to_string();
+        let words: Vec<&str> = source.split_whitespace().collect();
+        if words.is_empty() {
+            continue;
+        }
+        if words[0] == "expect" {
+            let expected = expected(&words[1..], &source).map_err(fault)?;
+            if !parser.recorded {
+                return Err(fault("there is no answer to expect anything of yet".to_string()));
+            }
+            steps.push(Step::Expect { line, source, expected });
+        } else if let Some(record) = parser.record(&words).map_err(fault)? {
+            steps.push(Step::Record { line, source, record });
+        }
+    }
+    Ok(steps)
+}
+
+struct Parser {
+    /// bSeq and bSlot of the next message.
+    seq: u8,
+    slot: u8,
+    /// The type of the card in the last insert line.
+    own_type: Option<u8>,
+    ended: bool,
+    recorded: bool,
+}
+
+impl Parser {
+    /// The record of a line, or none where the line only sets something for the next one.
+    fn record(&mut self, words: &[&str]) -> Result<Option<Record>, String> {
+        if self.ended {
+            return Err("the input has ended with 'bytes'".to_string());
+        }
+        let rest = &words[1..];
+        let record = match words[0] {
+            "seq" => {
+                self.seq = one_byte(rest, "seq")?;
+                return Ok(None);
+            }
+            "slot" => {
+                self.slot = one_byte(rest, "slot")?;
+                return Ok(None);
+            }
+            "insert" => self.insert(rest)?,
+            "remove" => {
+                no_more(rest)?;
+                Record::Remove
+            }
+            "power" => match rest {
+                ["on"] => self.message(0x62, &[])?,
+                ["off"] => self.message(0x63, &[])?,
+                _ => return Err("it is 'power on' or 'power off'".to_string()),
+            },
+            "status" => {
+                no_more(rest)?;
+                self.message(0x65, &[])?
+            }
+            "select" => {
+                let own = match (rest.is_empty(), self.own_type) {
+                    (false, _) => one_byte(rest, "select")?,
+                    (true, Some(own)) => own,
+                    (true, None) => return Err("'select' alone needs an insert of a card before it".to_string()),
+                };
+                self.message(0x6f, &[0xff, 0xa4, 0x00, 0x00, 0x01, own])?
+            }
+            "page" => {
+                let code = one_byte(rest, "page")?;
+                self.message(0x6f, &[0xff, 0x01, 0x00, 0x00, 0x01, code])?
+            }
+            "send" => {
+                let data = all_bytes(rest)?;
+                self.message(0x6f, &data)?
+            }
+            "raw" => Record::Message(at_most(all_bytes(rest)?)?),
+            "bytes" => {
+                self.ended = true;
+                Record::Loose(all_bytes(rest)?)
+            }
+            word => return Err(format!("'{}' is no word of the language (docs/SCRIPTS.md has it)", word)),
+        };
+        self.recorded = true;
+        Ok(Some(record))
+    }
+
+    fn message(&mut self, kind: u8, data: &[u8]) -> Result<Record, String> {
+        let mut message = vec![kind];
+        message.extend_from_slice(&(data.len() as u32).to_le_bytes());
+        message.extend_from_slice(&[self.slot, self.seq, 0, 0, 0]);
+        message.extend_from_slice(data);
+        self.slot = 0;
+        self.seq = self.seq.wrapping_add(1);
+        Ok(Record::Message(at_most(message)?))
+    }
+
+    fn insert(&mut self, words: &[&str]) -> Result<Record, String> {
+        let (kind, rest) = match words {
+            ["nothing"] => return Ok(Record::Insert { told: "an empty body".to_string(), body: Vec::new() }),
+            [] => return Err("insert what? A card as sle4442, or 'nothing'".to_string()),
+            ["kind", number, rest @ ..] => {
+                let number = number.parse::<u8>().map_err(|_| format!("'{}' is no kind from 0 to 255", number))?;
+                (number, rest)
+            }
+            [name, rest @ ..] => {
+                let kind = cards::named(name).ok_or_else(|| format!("'{}' is no card", name))?;
+                (kind.number, rest)
+            }
+        };
+        let known = cards::numbered(kind);
+        let (told, image) = match known {
+            Some(card) => {
+                self.own_type = Some(card.own_type);
+                (format!("{}, kind {}", card.told, kind), card_image(card, rest)?)
+            }
+            None => (format!("kind {}, which is unknown", kind), unknown_image(rest)?),
+        };
+        let told = format!("{}, image of {} bytes", told, image.len());
+        Ok(Record::Insert { told, body: at_most([&[kind], &image[..]].concat())? })
+    }
+}
+
+/// The image that the options of an insert line build.
+fn card_image(card: &Kind, mut words: &[&str]) -> Result<Vec<u8>, String> {
+    let mut memory: Vec<(usize, Vec<u8>)> = Vec::new();
+    let (mut fill, mut counter, mut code, mut protected) = (0xff, None, None, Vec::new());
+    let (mut short, mut long, mut whole) = (0, 0, None);
+    while let Some((&option, rest)) = words.split_first() {
+        words = rest;
+        match option {
+            "fill" => fill = next_byte(&mut words, option)?,
+            "memory" => memory.push((0, next_bytes(&mut words, option)?)),
+            "at" => {
+                let place = address(next_word(&mut words, option)?)?;
+                memory.push((place, next_bytes(&mut words, option)?));
+            }
+            "counter" => counter = Some(next_byte(&mut words, option)?),
+            "code" => code = Some(next_bytes(&mut words, option)?),
+            "protected" => protected.extend(addresses(next_word(&mut words, option)?)?),
+            "short" => short = number(next_word(&mut words, option)?)?,
+            "long" => long = number(next_word(&mut words, option)?)?,
+            "image" => whole = Some(next_bytes(&mut words, option)?),
+            _ => return Err(format!("'{}' is no option of insert", option)),
+        }
+    }
+    if let Some(image) = whole {
+        return Ok(image);
+    }
+
+    let mut image = vec![fill; card.memory];
+    image.resize(card.image, 0xff);
+    for (place, bytes) in memory {
+        if place + bytes.len() > card.memory {
+            return Err(format!("memory bytes at {:04X} pass the {} bytes of {}", place, card.memory, card.told));
+        }
+        image[place..place + bytes.len()].copy_from_slice(&bytes);
+    }
+    match &card.guard {
+        Some(guard) => {
+            image[guard.counter] = counter.unwrap_or(guard.full);
+            let code = code.unwrap_or_else(|| vec![0xff; guard.code_bytes]);
+            if code.len() != guard.code_bytes {
+                return Err(format!(
+                    "the code of {} has {} bytes, and these are {}",
+                    card.told,
+                    guard.code_bytes,
+                    code.len()
+                ));
+            }
+            image[guard.code..guard.code + guard.code_bytes].copy_from_slice(&code);
+            for place in protected {
+                if place >= guard.protectable {
+                    return Err(format!("byte {:04X} of {} has no protection bit", place, card.told));
+                }
+                image[guard.protection + place / 8] &= !(1 << (place % 8));
+            }
+        }
+        None if counter.is_some() || code.is_some() || !protected.is_empty() => {
+            return Err(format!("{} has no counter, no code and no protection bits", card.told));
+        }
+        None => {}
+    }
+    if short > image.len() {
+        return Err(format!("the image has only {} bytes", image.len()));
+    }
+    image.truncate(image.len() - short);
+    image.resize(image.len() + long, 0x00);
+    Ok(image)
+}
+
+fn unknown_image(words: &[&str]) -> Result<Vec<u8>, String> {
+    match words {
+        [] => Ok(Vec::new()),
+        ["image", rest @ ..] => all_bytes(rest),
+        _ => Err("an unknown kind has the option 'image' alone".to_string()),
+    }
+}
+
+fn expected(words: &[&str], source: &str) -> Result<Expected, String> {
+    match words {
+        [] => Err("expect what?".to_string()),
+        ["nothing"] => Ok(Expected::Nothing),
+        ["done"] => Ok(Expected::Done),
+        ["bad"] => Ok(Expected::Bad),
+        ["active"] => Ok(Expected::State(0)),
+        ["inactive"] => Ok(Expected::State(1)),
+        ["no", "card"] => Ok(Expected::State(2)),
+        ["error", code @ ..] => Ok(Expected::Error(one_byte(code, "expect error")?)),
+        ["refused", number] => match number.parse::<u8>() {
+            Ok(number @ 1..=5) => Ok(Expected::Refused(number)),
+            _ => Err(format!("'{}' is no number from 1 to 5", number)),
+        },
+        ["answer", rest @ ..] => Ok(Expected::Answer(all_bytes(rest)?)),
+        ["line", ..] => {
+            let text = source.strip_prefix("expect").unwrap_or("").trim_start().strip_prefix("line").unwrap_or("");
+            Ok(Expected::Line(text.trim().to_string()))
+        }
+        ["..", rest @ ..] => Ok(Expected::DataEnd(some_bytes(rest)?)),
+        rest => Ok(Expected::Data(some_bytes(rest)?)),
+    }
+}
+
+// ---- bytes and numbers
+
+/// Two hex digits a byte, any number of bytes a word, `XX*N` for N times XX.
+fn hex_word(word: &str) -> Option<Vec<u8>> {
+    let (digits, times) = match word.split_once('*') {
+        Some((digits, times)) if digits.len() == 2 => (digits, times.parse::<usize>().ok()?),
+        Some(_) => return None,
+        None => (word, 1),
+    };
+    if digits.is_empty() || digits.len() % 2 != 0 || times > 70_000 || !digits.bytes().all(|b| b.is_ascii_hexdigit()) {
+        return None;
+    }
+    let one: Option<Vec<u8>> =
+        (0..digits.len() / 2).map(|k| u8::from_str_radix(&digits[2 * k..2 * k + 2], 16).ok()).collect();
+    one.map(|bytes| bytes.repeat(times))
+}
+
+fn all_bytes(words: &[&str]) -> Result<Vec<u8>, String> {
+    let mut bytes = Vec::new();
+    for word in words {
+        bytes.extend(hex_word(word).ok_or_else(|| format!("'{}' is not bytes in hex", word))?);
+    }
+    Ok(bytes)
+}
+
+fn some_bytes(words: &[&str]) -> Result<Vec<u8>, String> {
+    if words.is_empty() {
+        return Err("expect which bytes?".to_string());
+    }
+    all_bytes(words)
+}
+
+fn one_byte(words: &[&str], what: &str) -> Result<u8, String> {
+    match all_bytes(words)?[..] {
+        [byte] => Ok(byte),
+        _ => Err(format!("'{}' takes one byte in hex", what)),
+    }
+}
+
+fn next_word<'a>(words: &mut &[&'a str], option: &str) -> Result<&'a str, String> {
+    let (&word, rest) = words.split_first().ok_or_else(|| format!("something is missing after '{}'", option))?;
+    *words = rest;
+    Ok(word)
+}
+
+fn next_byte(words: &mut &[&str], option: &str) -> Result<u8, String> {
+    one_byte(&[next_word(words, option)?], option)
+}
+
+/// All the words that are bytes.
+fn next_bytes(words: &mut &[&str], option: &str) -> Result<Vec<u8>, String> {
+    let count = words.iter().take_while(|word| hex_word(word).is_some()).count();
+    if count == 0 {
+        return Err(format!("bytes in hex are missing after '{}'", option));
+    }
+    let bytes = all_bytes(&words[..count]);
+    *words = &words[count..];
+    bytes
+}
+
+fn address(word: &str) -> Result<usize, String> {
+    if word.is_empty() || word.len() > 4 {
+        return Err(format!("'{}' is no address in hex", word));
+    }
+    usize::from_str_radix(word, 16).map_err(|_| format!("'{}' is no address in hex", word))
+}
+
+/// `0000..0003,0007`: both ends of a range belong to it.
+fn addresses(word: &str) -> Result<Vec<usize>, String> {
+    let mut all = Vec::new();
+    for part in word.split(',') {
+        match part.split_once("..") {
+            Some((from, to)) => all.extend(address(from)?..=address(to)?),
+            None => all.push(address(part)?),
+        }
+    }
+    Ok(all)
+}
+
+fn number(word: &str) -> Result<usize, String> {
+    match word.parse::<usize>() {
+        Ok(number) if number <= 70_000 => Ok(number),
+        _ => Err(format!("'{}' is no number of bytes", word)),
+    }
+}
+
+fn no_more(words: &[&str]) -> Result<(), String> {
+    match words {
+        [] => Ok(()),
+        [word, ..] => Err(format!("'{}' is too much", word)),
+    }
+}
+
+fn at_most(body: Vec<u8>) -> Result<Vec<u8>, String> {
+    if body.len() > 65_535 {
+        return Err(format!("a record holds at most 65535 bytes, and these are {}", body.len()));
+    }
+    Ok(body)
+}

@@ -1,0 +1,201 @@
+//! Messages and answers taken apart, in words.
+
+/// Bytes as a reader of the paper writes them; long rows are cut.
+pub fn row(bytes: &[u8]) -> String {
+    const SHOWN: usize = 24;
+    let digits = |part: &[u8]| part.iter().map(|byte| format!("{:02X}", byte)).collect::<Vec<_>>().join(" ");
+    if bytes.len() <= SHOWN {
+        digits(bytes)
+    } else {
+        format!("{} .. {} ({} bytes)", digits(&bytes[..16]), digits(&bytes[bytes.len() - 4..]), bytes.len())
+    }
+}
+
+/// What a message is: its type, its header where there is something to say, and its command.
+pub fn message(message: &[u8]) -> String {
+    if message.len() < 10 {
+        return format!("a message of only {} bytes: {}", message.len(), row(message));
+    }
+    let name = match message[0] {
+        0x62 => "power on",
+        0x63 => "power off",
+        0x65 => "slot status",
+        0x6f => "transfer",
+        _ => "an unsupported type",
+    };
+    let mut text = format!("{:02X} {}, bSlot {:02X}, bSeq {:02X}", message[0], name, message[5], message[6]);
+    let said = u32::from_le_bytes([message[1], message[2], message[3], message[4]]) as usize;
+    if said != message.len() - 10 {
+        text.push_str(&format!(", dwLength {:08X}h where {} bytes came", said, message.len() - 10));
+    }
+    if message[7..10] != [0, 0, 0] {
+        text.push_str(&format!(", bytes 7 to 9 {}", row(&message[7..10])));
+    }
+    if message[0] == 0x6f {
+        text.push_str(&format!(", {}", command(&message[10..])));
+    }
+    text
+}
+
+fn command(apdu: &[u8]) -> String {
+    if apdu.len() < 5 {
+        return format!("{} data bytes {}", apdu.len(), row(apdu));
+    }
+    let (place, p3, data) = (u16::from_be_bytes([apdu[2], apdu[3]]), apdu[4], &apdu[5..]);
+    if apdu[0] != 0xff {
+        return format!("no command: {}", row(apdu));
+    }
+    match apdu[1] {
+        0xa4 => format!("A4 select type {}", row(data)),
+        0x01 => format!("01 set the reader page, code {}", row(data)),
+        0xb0 => format!("B0 read {} from {:04X}", bytes_of(p3), place),
+        0xb1 => "B1 read the counter".to_string(),
+        0xb2 => format!("B2 read {} of protection bits from {:04X}", bytes_of(p3), place),
+        0xd0 => format!("D0 write {} at {:04X}", row(data), place),
+        0xd1 => format!("D1 protect {} at {:04X}", row(data), place),
+        0x20 => format!("20 present code {}", row(data)),
+        0xd2 => format!("D2 change the code to {}", row(data)),
+        _ => format!("no command: {}", row(apdu)),
+    }
+}
+
+fn bytes_of(count: u8) -> String {
+    if count == 1 {
+        "1 byte".to_string()
+    } else {
+        format!("{} bytes", count)
+    }
+}
+
+/// A number from the table of what is turned down.
+pub fn refusal(number: u8) -> &'static str {
+    match number {
+        1 => "the answer buffer is under 271 bytes",
+        2 => "the message is under 10 bytes",
+        3 => "the kind is unknown, or the image is not one of it",
+        4 => "the slot record is not sound",
+        5 => "a card is in already",
+        _ => "a number that the paper does not have",
+    }
+}
+
+/// An answer in its parts, a name and a text each. The message says what the data mean.
+pub fn answer(message: &[u8], answer: &[u8]) -> Vec<(&'static str, String)> {
+    if answer.len() < 10 {
+        return vec![("answer", format!("only {} bytes: {}", answer.len(), row(answer)))];
+    }
+    let kind = match answer[0] {
+        0x80 => "data block",
+        0x81 => "slot status",
+        _ => "no answer type of the paper",
+    };
+    let said = u32::from_le_bytes([answer[1], answer[2], answer[3], answer[4]]) as usize;
+    let mut first = format!("{:02X} {}, bSlot {:02X}, bSeq {:02X}", answer[0], kind, answer[5], answer[6]);
+    if said != answer.len() - 10 {
+        first.push_str(&format!(", dwLength {} where {} bytes came", said, answer.len() - 10));
+    }
+    if answer[0] == 0x81 {
+        first.push_str(if answer[9] == 0 { ", clock running" } else { ", clock stopped" });
+    }
+    let (status, error) = (answer[7], answer[8]);
+    let state = match status & 0x3f {
+        0 => "card active",
+        1 => "card inactive",
+        2 => "no card, or another slot",
+        _ => "no state of the paper",
+    };
+    let failed = status & 0x40 != 0;
+    let outcome = if failed { "failed" } else { "success" };
+    let mut parts = vec![
+        ("answer", first),
+        ("status", format!("{:02X} {}, {}, error {:02X} {}", status, outcome, state, error, error_name(failed, error))),
+    ];
+    let data = &answer[10..];
+    if message.first() == Some(&0x6f) && !failed && data.len() >= 2 {
+        let (data, word) = data.split_at(data.len() - 2);
+        if !data.is_empty() {
+            parts.push(("data", told_data(&message[10..], data)));
+        }
+        parts.push(("word", format!("{} {}", row(word), told_word(&message[10..], word))));
+    } else if !data.is_empty() {
+        let what = if message.first() == Some(&0x62) { ", the answer to reset" } else { "" };
+        parts.push(("data", format!("{}{}", row(data), what)));
+    }
+    parts
+}
+
+fn error_name(failed: bool, error: u8) -> &'static str {
+    match (failed, error) {
+        (false, 0x00) => "none",
+        (false, _) => "which a success does not have",
+        (true, 0x00) => "the message type is not supported",
+        (true, 0x01) => "dwLength is wrong",
+        (true, 0x05) => "there is no such slot",
+        (true, 0x07) => "bPowerSelect is not supported",
+        (true, 0x08) => "wLevelParameter is not 0",
+        (true, 0xfe) => "the card is mute: there is none, or it is not active",
+        _ => "no error of the paper",
+    }
+}
+
+fn told_data(apdu: &[u8], data: &[u8]) -> String {
+    match apdu.get(1) {
+        Some(0xb1) => format!("{}, counter {:02X}: {}", row(data), data[0], tries(data[0])),
+        Some(0xb2) => {
+            let from = usize::from(u16::from_be_bytes([apdu[2], apdu[3]]));
+            let mut runs: Vec<(usize, usize)> = Vec::new();
+            for k in (0..8 * data.len()).filter(|k| data[k / 8] & (1 << (k % 8)) == 0) {
+                match runs.last_mut() {
+                    Some((_, last)) if *last + 1 == from + k => *last += 1,
+                    _ => runs.push((from + k, from + k)),
+                }
+            }
+            let named: Vec<String> = runs
+                .iter()
+                .map(
+                    |&(first, last)| {
+                        if first == last {
+                            format!("{:04X}", first)
+                        } else {
+                            format!("{:04X}..{:04X}", first, last)
+                        }
+                    },
+                )
+                .collect();
+            let which = if named.is_empty() { "none".to_string() } else { named.join(" ") };
+            format!("{}, protected: {}", row(data), which)
+        }
+        _ => row(data),
+    }
+}
+
+fn tries(counter: u8) -> String {
+    match counter.count_ones() {
+        0 => "no tries left".to_string(),
+        1 => "1 try left".to_string(),
+        count => format!("{} tries left", count),
+    }
+}
+
+fn told_word(apdu: &[u8], word: &[u8]) -> String {
+    let text = match (word[0], word[1]) {
+        (0x90, counter) if apdu.get(1) == Some(&0x20) => {
+            let full = if apdu.get(4) == Some(&2) { 0xff } else { 0x07 };
+            return if counter == full {
+                format!("the right code: the card is open, counter {:02X}, {}", counter, tries(counter))
+            } else {
+                format!("the card is closed: counter {:02X}, {}", counter, tries(counter))
+            };
+        }
+        (0x90, 0x00) => "done",
+        (0x67, 0x00) => "wrong length",
+        (0x6e, 0x00) => "wrong class: the first byte is not FF",
+        (0x6d, 0x00) => "no such command here",
+        (0x69, 0x85) => "no type is selected",
+        (0x6b, 0x00) => "wrong place: P1P2, or the range that it begins",
+        (0x6a, 0x80) => "wrong value: the type, or the page code",
+        (0x69, 0x82) => "not allowed: the card is closed, or a byte is protected",
+        _ => "no status word of the paper",
+    };
+    text.to_string()
+}

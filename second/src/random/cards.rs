@@ -1,0 +1,102 @@
+//! Cards that go in, and cards that do not.
+
+use super::Maker;
+use crate::case::LONGEST_IMAGE;
+use crate::reader::{Chip, CHIPS};
+
+impl Maker {
+    /// An image that fits: odd counters and protection bits, but for the rest any bytes.
+    pub(super) fn image(&mut self, chip: &Chip) -> Vec<u8> {
+        let rng = &mut self.rng;
+        let mut image = match rng.below(4) {
+            0 => vec![rng.pick(&[0x00, 0xff, 0x55]); chip.image],
+            1 => (0..chip.image).map(|k| k as u8).collect(),
+            _ => rng.bytes(chip.image),
+        };
+        if !chip.has_code() {
+            return image;
+        }
+        let code = match rng.below(4) {
+            0 => vec![0xff; chip.code.len()],
+            1 => vec![0x00; chip.code.len()],
+            _ => rng.bytes(chip.code.len()),
+        };
+        image[chip.code.clone()].copy_from_slice(&code);
+        let bits = chip.protection..chip.protection + chip.protectable / 8;
+        match rng.below(8) {
+            0 => image[bits].fill(0x00),
+            1 => {}
+            2 | 3 => {
+                for byte in &mut image[bits] {
+                    *byte = rng.byte() | rng.byte() | rng.byte();
+                }
+            }
+            _ => {
+                image[bits.clone()].fill(0xff);
+                for _ in 0..rng.below(4) {
+                    let byte = bits.start + rng.below(bits.len());
+                    image[byte] &= !(1 << rng.below(8));
+                }
+                // The code of a 4428 may be protected already.
+                if rng.chance(15) {
+                    image[bits.end - 1] &= rng.pick(&[0x3f, 0x7f, 0xbf]);
+                }
+            }
+        }
+        // Half of the counters are full, the others have any number of tries left, in any bits.
+        image[chip.counter] = chip.full;
+        if rng.chance(50) {
+            let tries = rng.below(chip.full.count_ones() as usize + 1) as u32;
+            while image[chip.counter].count_ones() > tries {
+                image[chip.counter] &= !(1 << rng.below(8));
+            }
+        }
+        if chip.counter < chip.memory {
+            image[chip.protection + chip.counter / 8] |= 1 << (chip.counter % 8);
+        }
+        image
+    }
+
+    /// A kind and an image that do not go in, and why.
+    pub(super) fn bad_card(&mut self) -> (u8, Vec<u8>, &'static str) {
+        let (chip, which) = match self.rng.below(5) {
+            3 => (&CHIPS[10], 3),
+            4 => (&CHIPS[9], 4),
+            which => (self.any_chip(), which),
+        };
+        let (mut kind, mut image) = (chip.kind, self.image(chip));
+        let why = match which {
+            0 => {
+                kind = loop {
+                    let kind =
+                        if self.rng.chance(50) { self.rng.byte() } else { self.rng.pick(&[0, 10, 19, 21, 29, 31]) };
+                    if Chip::of(kind).is_none() {
+                        break kind;
+                    }
+                };
+                "kind unknown"
+            }
+            1 => {
+                image.pop();
+                "image short"
+            }
+            2 if image.len() < LONGEST_IMAGE => {
+                image.push(self.rng.byte());
+                "image long"
+            }
+            2 => {
+                image.pop();
+                "image short"
+            }
+            3 => {
+                image[chip.counter] = self.rng.pick(&[0x08, 0x0f, 0x10, 0x80, 0xff]);
+                "4442 counter above 07h"
+            }
+            _ => {
+                image[chip.protection + chip.counter / 8] &= !(1 << (chip.counter % 8));
+                "4428 bit for 3FDh is 0"
+            }
+        };
+        (kind, image, why)
+    }
+}

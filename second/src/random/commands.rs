@@ -1,0 +1,227 @@
+//! The commands inside 6Fh, in their right form and spoiled.
+
+use super::Maker;
+
+const INS: [u8; 9] = [0xa4, 0x01, 0xb0, 0xb1, 0xb2, 0xd0, 0xd1, 0x20, 0xd2];
+const LENGTHS: [usize; 24] =
+    [1, 2, 3, 4, 5, 7, 8, 9, 15, 16, 17, 31, 32, 33, 63, 64, 65, 100, 127, 128, 129, 200, 254, 255];
+const PLACES: [usize; 30] = [
+    0, 1, 7, 8, 9, 15, 16, 17, 28, 29, 30, 31, 32, 33, 63, 64, 65, 127, 128, 254, 255, 256, 0x3fc, 0x3fd, 0x3fe, 0x3ff,
+    0x400, 0x7fff, 0x8000, 0xffff,
+];
+
+/// How often each command is taken, by what the card is.
+#[rustfmt::skip]
+const ON_I2C: [(usize, u8); 4] = [(6, 0xa4), (18, 0x01), (32, 0xb0), (44, 0xd0)];
+#[rustfmt::skip]
+const ON_CLOSED: [(usize, u8); 8] =
+    [(5, 0xa4), (23, 0xb0), (8, 0xb1), (8, 0xb2), (6, 0xd0), (4, 0xd1), (41, 0x20), (5, 0xd2)];
+#[rustfmt::skip]
+const ON_OPEN: [(usize, u8); 8] =
+    [(3, 0xa4), (23, 0xb0), (5, 0xb1), (8, 0xb2), (32, 0xd0), (14, 0xd1), (6, 0x20), (9, 0xd2)];
+
+/// Places and lengths around the counter and the code of a 4428.
+#[rustfmt::skip]
+const NEAR_CODE: [(usize, usize); 10] = [
+    (0x3fe, 2), (0x3fe, 2), (0x3fe, 1), (0x3ff, 1), (0x3fd, 1), (0x3fd, 3), (0x3fc, 1), (0x3fc, 2), (0x3fb, 5), (0x3fe, 3),
+];
+
+impl Maker {
+    /// The data of a 6Fh: mostly a command of the present type, in its right form.
+    pub(super) fn apdu(&mut self) -> Vec<u8> {
+        let own = self.chip().map_or(0x06, |chip| chip.select);
+        let slot = &self.reader.slot;
+        let ins = if slot.active && slot.selected == 0 && self.rng.chance(70) {
+            0xa4
+        } else if self.rng.chance(6) {
+            self.rng.pick(&INS)
+        } else {
+            match (own, self.reader.slot.open) {
+                (0x01 | 0x02, _) => self.rng.weighed(&ON_I2C),
+                (_, false) => self.rng.weighed(&ON_CLOSED),
+                (_, true) => self.rng.weighed(&ON_OPEN),
+            }
+        };
+        // A command that the type does not have takes the form of one that has it.
+        let form = match (ins, own) {
+            (0x01, 0x05 | 0x06) => 0x01,
+            (0xb1 | 0xb2 | 0xd1 | 0x20, 0x01 | 0x02) => self.rng.pick(&[0x05, 0x06]),
+            (0xd2, 0x01 | 0x02 | 0x05) => 0x06,
+            _ => own,
+        };
+        let mut apdu = self.command(ins, form);
+        // Commands that have but one right form are spoiled more often.
+        let percent = match ins {
+            0xa4 => 20,
+            0x01 | 0xb1 | 0xb2 | 0xd2 => 16,
+            _ => 9,
+        };
+        if self.rng.chance(percent) {
+            self.spoil(&mut apdu);
+        }
+        apdu
+    }
+
+    fn command(&mut self, ins: u8, form: u8) -> Vec<u8> {
+        let own = self.chip().map_or(form, |chip| chip.select);
+        let memory = self.chip().map_or(256, |chip| chip.memory);
+        let brought = |place: usize, data: Vec<u8>| {
+            let mut apdu = vec![0xff, ins, (place >> 8) as u8, place as u8, data.len() as u8];
+            apdu.extend_from_slice(&data);
+            apdu
+        };
+        let plain = |place: usize, p3: usize| vec![0xff, ins, (place >> 8) as u8, place as u8, p3 as u8];
+        match (ins, form) {
+            (0xa4, _) => {
+                let value = if self.rng.chance(90) {
+                    own
+                } else {
+                    self.rng.pick(&[0x00, 0x01, 0x02, 0x03, 0x04, 0x05, 0x06, 0x07, 0xff])
+                };
+                brought(0, vec![value])
+            }
+            (0x01, _) => {
+                let value = if self.rng.chance(92) {
+                    0x03 + self.rng.below(5) as u8
+                } else {
+                    self.rng.pick(&[0x00, 0x01, 0x02, 0x08, 0x09, 0x83, 0xff])
+                };
+                brought(0, vec![value])
+            }
+            (0xb0, _) => {
+                let (place, count) = self.span(memory);
+                plain(place, count)
+            }
+            (0xb1, 0x05) => plain(0, 3),
+            (0xb1, _) => plain(0, 4),
+            (0xb2, 0x05) => {
+                let count = self.rng.pick(&[1, 1, 2, 3, 4, 8, 16, 31, 32, 33]);
+                let last = 1024 - 8 * count;
+                let place = match self.rng.below(5) {
+                    0 => last,
+                    1 => last + self.rng.pick(&[1, 2, 8, 0xfc00]),
+                    _ => self.rng.below(last + 1),
+                };
+                plain(place, count)
+            }
+            (0xb2, _) => plain(0, 4),
+            (0xd0, _) => {
+                let (place, count) =
+                    if own == 0x05 && self.rng.chance(25) { self.rng.pick(&NEAR_CODE) } else { self.span(memory) };
+                let data = if self.rng.chance(15) { self.stored(place, count) } else { self.rng.bytes(count) };
+                brought(place, data)
+            }
+            (0xd1, _) => {
+                let (place, count) = self.span(if form == 0x05 { 0x3fd } else { 32 });
+                let mut data = self.stored(place, count);
+                // Some bytes differ from the stored ones, and are passed over.
+                for _ in 0..self.rng.below(3) {
+                    let k = self.rng.below(count);
+                    data[k] ^= 1 << self.rng.below(8);
+                }
+                brought(place, data)
+            }
+            (0x20, _) => {
+                let length = if form == 0x05 { 2 } else { 3 };
+                let code = self.code(length);
+                brought(0, code)
+            }
+            _ => {
+                let code = if self.rng.chance(30) { self.code(3) } else { self.rng.bytes(3) };
+                brought(1, code)
+            }
+        }
+    }
+
+    /// A place and a count of 1 to 255: inside, at the edges, up to the end, and past it.
+    fn span(&mut self, end: usize) -> (usize, usize) {
+        let page = usize::from(self.reader.slot.page.max(1));
+        let rng = &mut self.rng;
+        let count = if rng.chance(60) { rng.pick(&LENGTHS) } else { 1 + rng.below(255) };
+        let count = if rng.chance(80) { count.min(end) } else { count };
+        let place = match rng.below(12) {
+            0 | 1 => end.saturating_sub(count),
+            2 => end.saturating_sub(count) + 1,
+            3 => rng.pick(&PLACES),
+            4 => end.saturating_sub(rng.below(3)),
+            5 | 6 => (rng.below(end / page + 1) * page + rng.below(3)).saturating_sub(1),
+            _ if count < end => rng.below(end - count + 1),
+            _ => 0,
+        };
+        (place.min(0xffff), count)
+    }
+
+    /// The bytes that stand in the memory there, 00h past its end.
+    fn stored(&self, place: usize, count: usize) -> Vec<u8> {
+        (place..place + count).map(|k| self.reader.image.get(k).copied().unwrap_or(0)).collect()
+    }
+
+    /// The right code, or nearly: one bit or byte off, turned round, or any other.
+    fn code(&mut self, length: usize) -> Vec<u8> {
+        let mut code = match self.chip() {
+            Some(chip) if chip.code.len() == length => self.reader.image[chip.code.clone()].to_vec(),
+            _ => self.rng.bytes(length),
+        };
+        let which = self.rng.below(length);
+        match self.rng.below(11) {
+            0 | 1 => code[which] ^= 1 << self.rng.below(8),
+            2 => code[which] = self.rng.byte(),
+            3 => code.reverse(),
+            4 => code = self.rng.bytes(length),
+            _ => {}
+        }
+        code
+    }
+
+    /// A fault in a command, or something that is no command.
+    fn spoil(&mut self, apdu: &mut Vec<u8>) {
+        let rng = &mut self.rng;
+        match rng.below(17) {
+            0 => apdu.truncate(rng.below(5)),
+            1 => apdu[0] = rng.pick(&[0x00, 0x80, 0xfe, 0x7f]),
+            2 => {
+                apdu[1] = loop {
+                    let ins = if rng.chance(50) {
+                        rng.byte()
+                    } else {
+                        rng.pick(&[0x00, 0x02, 0x21, 0xa5, 0xaf, 0xb3, 0xcf, 0xd3, 0xff])
+                    };
+                    if !INS.contains(&ins) {
+                        break ins;
+                    }
+                }
+            }
+            // P3 and the bytes that came do not agree, or are too many or too few
+            3 => apdu[4] = apdu[4].wrapping_add(1),
+            4 => apdu[4] = apdu[4].wrapping_sub(1),
+            5 => apdu.push(rng.byte()),
+            6 => {
+                apdu.pop();
+            }
+            7 => {
+                apdu[4] = 0;
+                apdu.truncate(5);
+            }
+            8 => {
+                let count = 1 + rng.below(6);
+                apdu[4] = count as u8;
+                if apdu.len() > 5 {
+                    apdu.resize(5 + count, rng.byte());
+                }
+            }
+            9 => apdu[4] = rng.byte(),
+            // another place
+            10 => apdu[2] = rng.pick(&[0x01, 0x04, 0x80, 0xff]),
+            11..=13 => apdu[3] = apdu[3].wrapping_add(rng.pick(&[1, 0x10, 0x80, 0xff])),
+            14 => {
+                apdu[2] = 0xff;
+                apdu[3] = 0xff;
+            }
+            _ => {
+                if let Some(value) = apdu.get_mut(5) {
+                    *value = rng.byte();
+                }
+            }
+        }
+    }
+}

@@ -1,0 +1,250 @@
+//! Sessions: cards that go in and out, messages, and what ends a session.
+
+use super::{Maker, Rng, Stream};
+use crate::case::LONGEST_IMAGE;
+use crate::count::{self, Count};
+use crate::record::{whole, Record};
+use crate::step::{INSERT, LONGEST_BODY, MESSAGE, REMOVE};
+
+/// How a stream may end: the causes of `bad`, and a clean end.
+pub const ENDINGS: [&str; 15] = [
+    "a clean end",
+    "a header cut after 1 byte",
+    "a header cut after 2 bytes",
+    "a header cut after 3 bytes",
+    "a message body cut",
+    "an insert body cut",
+    "a body that never came",
+    "another first mark byte",
+    "another second mark byte",
+    "an insert body of 32,770 bytes",
+    "a message body of 32,770 bytes",
+    "a body of 65,535 bytes",
+    "a remove body of 1 byte",
+    "a longer remove body",
+    "a clean end after 32,769 bytes",
+];
+
+/// The records of stream `index` of the seed: sessions of together at least so many messages.
+pub fn sessions(seed: u64, index: u64, messages: usize, count: &mut Count) -> Stream<Record> {
+    let mut making = Making {
+        maker: Maker::new(Rng::new(seed, index)),
+        stream: Stream { parts: Vec::new(), lines: Vec::new(), starts: Vec::new() },
+        messages: 0,
+        count,
+    };
+    while making.messages < messages {
+        making.stream.starts.push(making.stream.parts.len());
+        making.session();
+        making.put(Record::Remove, "");
+    }
+    making.end(ENDINGS[(index % ENDINGS.len() as u64) as usize]);
+    making.stream
+}
+
+struct Making<'a> {
+    maker: Maker,
+    stream: Stream<Record>,
+    messages: usize,
+    count: &'a mut Count,
+}
+
+impl Making<'_> {
+    /// Carries the record out and keeps it with its line. `why` says what is the matter with it.
+    fn put(&mut self, record: Record, why: &str) {
+        let reader = &mut self.maker.reader;
+        let before = count::Before::of(&reader.slot, &reader.image);
+        let line = match &record {
+            Record::Insert(body) => reader.record(INSERT, body),
+            Record::Remove => reader.record(REMOVE, &[]),
+            Record::Message(body) => reader.record(MESSAGE, body),
+            Record::Ending(_) => None,
+        };
+        let line = line.unwrap_or_else(|| "bad".to_string());
+        match &record {
+            Record::Insert(_) if line == "in 0" => self.count.add(format!("in 0: kind {}", reader.slot.kind)),
+            Record::Remove => {
+                self.count.add(format!("{}: {}", line, if before.kind == 0 { "no card" } else { "a card" }))
+            }
+            Record::Message(message) => {
+                self.messages += 1;
+                if matches!(self.stream.parts.last(), Some(Record::Message(last)) if last == message) {
+                    self.count.add("an equal message again".to_string());
+                }
+                match line.strip_prefix("msg 0 ") {
+                    Some(answer) => self.count.answer(&before, message, answer),
+                    None => self.count.add(format!("{}: {} bytes", line, message.len())),
+                }
+            }
+            _ => self.count.add(format!("{}: {}", line, why)),
+        }
+        self.stream.parts.push(record);
+        self.stream.lines.push(line);
+    }
+
+    fn insert(&mut self, kind: u8, image: &[u8], why: &str) {
+        let mut body = vec![kind];
+        body.extend_from_slice(image);
+        self.put(Record::Insert(body), why);
+    }
+
+    fn good_card(&mut self) {
+        let chip = self.maker.any_chip();
+        let image = self.maker.image(chip);
+        self.insert(chip.kind, &image, "a card");
+    }
+
+    fn bad_insertion(&mut self) {
+        if self.maker.rng.chance(20) {
+            self.put(Record::Insert(Vec::new()), "empty body");
+        } else {
+            let (kind, image, why) = self.maker.bad_card();
+            self.insert(kind, &image, why);
+        }
+    }
+
+    fn message(&mut self) {
+        let message = self.maker.message();
+        self.put(Record::Message(message), "");
+    }
+
+    /// Begins and ends with the empty slot, but for the last removal.
+    fn session(&mut self) {
+        if self.maker.rng.chance(40) {
+            for _ in 0..1 + self.maker.rng.below(4) {
+                self.message();
+            }
+        }
+        if self.maker.rng.chance(5) {
+            self.put(Record::Remove, "");
+        }
+        if self.maker.rng.chance(20) {
+            self.bad_insertion();
+        }
+        self.good_card();
+        for _ in 0..10 + self.maker.rng.below(70) {
+            match self.maker.rng.below(300) {
+                0 => self.good_card(),
+                1 => self.bad_insertion(),
+                2 => {
+                    self.put(Record::Remove, "");
+                    for _ in 0..self.maker.rng.below(3) {
+                        self.message();
+                    }
+                    self.good_card();
+                }
+                3 if self.maker.rng.chance(10) => {
+                    let mut long = self.maker.message();
+                    long.resize(LONGEST_BODY, 0x20);
+                    self.put(Record::Message(long), "");
+                }
+                _ => self.message(),
+            }
+        }
+        if self.maker.rng.chance(40) {
+            self.look_over();
+        }
+    }
+
+    /// Reads the card from end to end, or a large one here and there, so that what a write did
+    /// wrong is seen.
+    fn look_over(&mut self) {
+        let chip = match self.maker.chip() {
+            Some(chip) => chip,
+            None => return,
+        };
+        if self.maker.reader.slot.selected == 0 {
+            let power_on = self.maker.ccid(0x62, &[]);
+            self.put(Record::Message(power_on), "");
+            self.command(&[0xff, 0xa4, 0x00, 0x00, 0x01, chip.select]);
+        }
+        let most = 5;
+        let mut place = 0;
+        for _ in 0..most {
+            if chip.memory > most * 255 {
+                place = self.maker.rng.below(chip.memory - 1);
+            }
+            let count = (chip.memory - place).min(255);
+            self.command(&[0xff, 0xb0, (place >> 8) as u8, place as u8, count as u8]);
+            place += count;
+            if place >= chip.memory {
+                break;
+            }
+        }
+        match chip.select {
+            0x05 => {
+                for place in [0, 1, 2, 3] {
+                    self.command(&[0xff, 0xb2, place, 0x00, 32]);
+                }
+            }
+            0x06 => {
+                self.command(&[0xff, 0xb1, 0x00, 0x00, 4]);
+                self.command(&[0xff, 0xb2, 0x00, 0x00, 4]);
+            }
+            _ => {}
+        }
+    }
+
+    fn command(&mut self, apdu: &[u8]) {
+        let message = self.maker.ccid(0x6f, apdu);
+        self.put(Record::Message(message), "");
+    }
+
+    /// Ends the stream in one of the ways, which is counted.
+    fn end(&mut self, how: &'static str) {
+        // What comes after `bad` must not be done any more.
+        let after = Record::Message(vec![0x65, 0, 0, 0, 0, 0, 0, 0, 0, 0]).bytes();
+        let rng = &mut self.maker.rng;
+        let mark = rng.pick(&[INSERT, REMOVE, MESSAGE]);
+        let ten = whole(MESSAGE, &[0x65, 0, 0, 0, 0, 0, 1, 0, 0, 0]);
+        let bytes = match how {
+            "a header cut after 1 byte" => mark[..1].to_vec(),
+            "a header cut after 2 bytes" => mark.to_vec(),
+            "a header cut after 3 bytes" => whole(mark, &[])[..3].to_vec(),
+            "a message body cut" => ten[..4 + 1 + rng.below(9)].to_vec(),
+            "an insert body cut" => {
+                let body = rng.bytes(265);
+                whole(INSERT, &body)[..4 + 1 + rng.below(264)].to_vec()
+            }
+            "a body that never came" => {
+                let body = vec![0; 1 + rng.below(LONGEST_BODY)];
+                whole(mark, &body)[..4].to_vec()
+            }
+            "another first mark byte" => {
+                let mark = [rng.pick(&[0x00, 0x42, 0x44, 0x4d, 0x49, 0x63, 0x0a]), mark[1]];
+                let length = rng.pick(&[0, 10]);
+                [whole(mark, &ten[4..4 + length]), after].concat()
+            }
+            "another second mark byte" => {
+                let mark =
+                    rng.pick(&[[0x43, 0x4d], [0x43, 0x48], [0x43, 0x69], [0x4f, 0x49], [0x4f, 0x4f], [0x4f, 0x4e]]);
+                let length = rng.pick(&[0, 10]);
+                [whole(mark, &ten[4..4 + length]), after].concat()
+            }
+            "an insert body of 32,770 bytes" => {
+                let mut body = vec![0; LONGEST_BODY + 1];
+                body[0] = 9;
+                [whole(INSERT, &body), after].concat()
+            }
+            "a message body of 32,770 bytes" => [whole(MESSAGE, &vec![0x65; LONGEST_BODY + 1]), after].concat(),
+            "a body of 65,535 bytes" => {
+                let body = vec![0; 65_535];
+                whole(mark, &body)[..4 + rng.below(40_000)].to_vec()
+            }
+            "a remove body of 1 byte" => [whole(REMOVE, &[rng.byte()]), after].concat(),
+            "a longer remove body" => [whole(REMOVE, &ten), after].concat(),
+            "a clean end after 32,769 bytes" => {
+                let image = rng.bytes(LONGEST_IMAGE);
+                self.insert(9, &image, "");
+                self.put(Record::Message(vec![0x62; LONGEST_BODY]), "");
+                self.count.add(how.to_string());
+                return;
+            }
+            _ => {
+                self.count.add(how.to_string());
+                return;
+            }
+        };
+        self.put(Record::Ending(bytes), how);
+    }
+}

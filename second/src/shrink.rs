@@ -1,0 +1,291 @@
+//! Makes a session or a list of cases that two programs answer differently as short as it gets,
+//! and tells it.
+
+use crate::case::Case;
+use crate::random;
+use crate::reader::Chip;
+use crate::record::{told_message, Record};
+use crate::step::hex;
+use std::time::{Duration, Instant};
+
+/// After so long the shortest that was found is taken.
+const LONGEST: Duration = Duration::from_secs(120);
+
+/// A record or a case.
+pub trait Part: Clone {
+    fn bytes(&self) -> Vec<u8>;
+    fn told(&self) -> String;
+    /// The same part made smaller step by step, where the test still holds of it.
+    fn smaller(&self, holds: &mut dyn FnMut(&Self) -> bool) -> Self;
+}
+
+/// The fewest and smallest parts of which the test still holds; it holds of the given ones.
+pub fn shrink<P: Part>(mut parts: Vec<P>, holds: &mut dyn FnMut(&[P]) -> bool) -> Vec<P> {
+    let began = Instant::now();
+    let mut said = began;
+    let mut tried = 0;
+    let mut test = |candidate: &[P]| {
+        if began.elapsed() > LONGEST {
+            return false;
+        }
+        if said.elapsed() > Duration::from_secs(3) {
+            said = Instant::now();
+            eprintln!("  shrinking, {} runs, now {} parts", tried, candidate.len());
+        }
+        tried += 1;
+        holds(candidate)
+    };
+    loop {
+        let before = size(&parts);
+        drop_parts(&mut parts, &mut test);
+        for k in 0..parts.len() {
+            let part = parts[k].smaller(&mut |candidate| {
+                let mut whole = parts.clone();
+                whole[k] = candidate.clone();
+                test(&whole)
+            });
+            parts[k] = part;
+        }
+        if size(&parts) == before {
+            return parts;
+        }
+    }
+}
+
+fn size<P: Part>(parts: &[P]) -> (usize, usize, u64) {
+    let bytes = parts.iter().map(|part| part.bytes()).collect::<Vec<_>>().concat();
+    (parts.len(), bytes.len(), bytes.iter().map(|&byte| u64::from(byte)).sum())
+}
+
+/// Leaves out as many parts as possible: halves first, then ever fewer.
+fn drop_parts<P: Part>(parts: &mut Vec<P>, test: &mut dyn FnMut(&[P]) -> bool) {
+    let mut count = (parts.len() + 1) / 2;
+    while count > 0 {
+        let mut at = parts.len();
+        while at > 0 {
+            let from = at.saturating_sub(count);
+            let rest = [&parts[..from], &parts[at..]].concat();
+            if !rest.is_empty() && test(&rest) {
+                *parts = rest;
+            }
+            at = from;
+        }
+        count /= 2;
+    }
+}
+
+/// Makes the bytes of a range 00h: all, else either half, and so on.
+fn clear(bytes: &mut Vec<u8>, from: usize, to: usize, test: &mut dyn FnMut(&[u8]) -> bool) {
+    if bytes[from..to].iter().all(|&byte| byte == 0) {
+        return;
+    }
+    let mut cleared = bytes.clone();
+    cleared[from..to].fill(0);
+    if test(&cleared) {
+        *bytes = cleared;
+    } else if to - from > 1 {
+        let middle = (from + to) / 2;
+        clear(bytes, from, middle, test);
+        clear(bytes, middle, to, test);
+    }
+}
+
+/// Makes each byte of a range smaller while the test holds.
+fn lower(bytes: &mut [u8], from: usize, to: usize, test: &mut dyn FnMut(&[u8]) -> bool) {
+    for k in from..to {
+        loop {
+            let value = bytes[k];
+            let smaller = [0, value / 2, value.saturating_sub(1)].iter().copied().find(|&less| {
+                let mut lowered = bytes.to_vec();
+                lowered[k] = less;
+                less < value && test(&lowered)
+            });
+            match smaller {
+                Some(less) => bytes[k] = less,
+                None => break,
+            }
+        }
+    }
+}
+
+/// A message with less data, and lower bytes. Where dwLength and P3 are right they stay right.
+fn smaller_message(message: &[u8], test: &mut dyn FnMut(&[u8]) -> bool) -> Vec<u8> {
+    let mut message = message.to_vec();
+    loop {
+        let length = message.len();
+        let found = [length / 2, length.saturating_sub(16), length.saturating_sub(1)].iter().find_map(|&less| {
+            let cut = cut_message(&message, less);
+            (less < length && test(&cut)).then_some(cut)
+        });
+        match found {
+            Some(cut) => message = cut,
+            None => break,
+        }
+    }
+    let end = message.len();
+    clear(&mut message, end.min(5), end, test);
+    lower(&mut message, end.min(5), end, test);
+    message
+}
+
+fn cut_message(message: &[u8], length: usize) -> Vec<u8> {
+    let mut cut = message[..length].to_vec();
+    if message.len() >= 10 && length >= 10 {
+        let came = (message.len() - 10) as u32;
+        if message[1..5] == came.to_le_bytes() {
+            cut[1..5].copy_from_slice(&((length - 10) as u32).to_le_bytes());
+        }
+        if length > 15 && usize::from(message[14]) == message.len() - 15 {
+            cut[14] = (length - 15) as u8;
+        }
+    }
+    cut
+}
+
+impl Part for Record {
+    fn bytes(&self) -> Vec<u8> {
+        Record::bytes(self)
+    }
+
+    fn told(&self) -> String {
+        Record::told(self)
+    }
+
+    fn smaller(&self, holds: &mut dyn FnMut(&Record) -> bool) -> Record {
+        match self {
+            Record::Message(message) => {
+                Record::Message(smaller_message(message, &mut |less| holds(&Record::Message(less.to_vec()))))
+            }
+            Record::Insert(body) => {
+                let mut body = body.clone();
+                let end = body.len();
+                clear(&mut body, end.min(1), end, &mut |less| holds(&Record::Insert(less.to_vec())));
+                Record::Insert(body)
+            }
+            Record::Ending(bytes) => {
+                let mut bytes = bytes.clone();
+                while !bytes.is_empty() {
+                    let less = [bytes.len() / 2, bytes.len() - 1];
+                    match less.iter().find(|&&less| holds(&Record::Ending(bytes[..less].to_vec()))) {
+                        Some(&less) => bytes.truncate(less),
+                        None => break,
+                    }
+                }
+                Record::Ending(bytes)
+            }
+            Record::Remove => Record::Remove,
+        }
+    }
+}
+
+impl Part for random::Part {
+    fn bytes(&self) -> Vec<u8> {
+        random::Part::bytes(self)
+    }
+
+    fn told(&self) -> String {
+        let case = match self {
+            random::Part::Case(case) => case,
+            random::Part::Ending(bytes) => return format!("{} bytes as they stand", bytes.len()),
+        };
+        let record = &case.record;
+        let kind = match Chip::of(record[0]) {
+            Some(chip) => chip.name,
+            None if record[0] == 0 => "no card",
+            None => "no kind",
+        };
+        let rest = if record[5..].iter().all(|&byte| byte == 0) { "00" } else { "not all 00" };
+        format!(
+            "record: kind {} ({}), active {}, type {:02x}, page {}, open {}, rest {}\n\
+             buffer: {} bytes of {:02x}\nmessage: {}\n         {}\nimage: {} bytes",
+            record[0],
+            kind,
+            record[1],
+            record[2],
+            record[3],
+            record[4],
+            rest,
+            case.buffer,
+            case.fill,
+            told_message(&case.message),
+            hex(&case.message),
+            case.image.len()
+        )
+    }
+
+    fn smaller(&self, holds: &mut dyn FnMut(&random::Part) -> bool) -> random::Part {
+        let mut case = match self {
+            random::Part::Case(case) => case.clone(),
+            ending => return ending.clone(),
+        };
+        let mut still = |case: &Case| holds(&random::Part::Case(case.clone()));
+        for (buffer, fill) in [(0, 0), (270, 0), (271, 0), (case.buffer, 0)] {
+            let less = Case { buffer, fill, ..case.clone() };
+            if buffer <= case.buffer && still(&less) {
+                case = less;
+                break;
+            }
+        }
+        let with = case.clone();
+        case.message =
+            smaller_message(&with.message, &mut |less| still(&Case { message: less.to_vec(), ..with.clone() }));
+        let with = case.clone();
+        let mut record = with.record.to_vec();
+        clear(&mut record, 1, 32, &mut |less| {
+            let mut record = with.record;
+            record.copy_from_slice(less);
+            still(&Case { record, ..with.clone() })
+        });
+        case.record.copy_from_slice(&record);
+        let with = case.clone();
+        let end = case.image.len();
+        clear(&mut case.image, 0, end, &mut |less| still(&Case { image: less.to_vec(), ..with.clone() }));
+        random::Part::Case(case)
+    }
+}
+
+/// A line with long runs of one byte in hex written as XX*N.
+pub fn shortened(line: &str) -> String {
+    line.split(' ').map(shortened_word).collect::<Vec<_>>().join(" ")
+}
+
+fn shortened_word(word: &str) -> String {
+    let is_hex = word.len() % 2 == 0 && word.bytes().all(|byte| byte.is_ascii_hexdigit());
+    if !is_hex {
+        return word.to_string();
+    }
+    let bytes: Vec<&str> = (0..word.len() / 2).map(|k| &word[2 * k..2 * k + 2]).collect();
+    let (mut text, mut at) = (String::new(), 0);
+    while at < bytes.len() {
+        let run = bytes[at..].iter().take_while(|&&byte| byte == bytes[at]).count();
+        if run < 16 {
+            text.push_str(bytes[at]);
+            at += 1;
+        } else {
+            text.push_str(&format!("[{}*{}]", bytes[at], run));
+            at += run;
+        }
+    }
+    text
+}
+
+/// The bytes in rows of sixteen; rows that repeat the one before are a star.
+pub fn dump(bytes: &[u8]) -> String {
+    let mut text = String::new();
+    let mut before: &[u8] = &[];
+    let mut starred = false;
+    for (row, chunk) in bytes.chunks(16).enumerate() {
+        if chunk == before && (row + 1) * 16 < bytes.len() {
+            if !starred {
+                text.push_str("    *\n");
+            }
+            starred = true;
+            continue;
+        }
+        starred = false;
+        before = chunk;
+        let digits: Vec<String> = chunk.iter().map(|byte| format!("{:02x}", byte)).collect();
+        text.push_str(&format!("    {:05x}  {}\n", row * 16, digits.join(" ")));
+    }
+    text
+}

@@ -1,0 +1,56 @@
+//! The trial program: cases from standard input, a line each on standard output. A case is a raw
+//! slot record (32 bytes), the answer buffer's length (2 bytes, low first), the byte it is filled
+//! with, the message's length (2, low first), the image's length (4, low first), message, image.
+
+use second::case::{Case, HEADER, LONGEST_BUFFER, LONGEST_IMAGE, LONGEST_MESSAGE, RECORD};
+use std::io::{self, BufWriter, Read, Write};
+
+fn main() -> io::Result<()> {
+    let mut input = io::stdin().lock();
+    let mut output = BufWriter::new(io::stdout().lock());
+    while let Some(case) = next(&mut input)? {
+        match case {
+            Ok(case) => writeln!(output, "{}", case.line())?,
+            Err(Bad) => {
+                writeln!(output, "bad")?;
+                break;
+            }
+        }
+    }
+    output.flush()
+}
+
+/// A case that is cut or over a limit.
+struct Bad;
+
+/// The next case, or nothing at a clean end.
+fn next(input: &mut impl Read) -> io::Result<Option<Result<Case, Bad>>> {
+    let header = take(input, HEADER)?;
+    if header.is_empty() {
+        return Ok(None);
+    }
+    if header.len() < HEADER {
+        return Ok(Some(Err(Bad)));
+    }
+    let mut record = [0; RECORD];
+    record.copy_from_slice(&header[..RECORD]);
+    let buffer = usize::from(u16::from_le_bytes([header[32], header[33]]));
+    let fill = header[34];
+    let message = usize::from(u16::from_le_bytes([header[35], header[36]]));
+    let image = u32::from_le_bytes([header[37], header[38], header[39], header[40]]) as usize;
+    if buffer > LONGEST_BUFFER || message > LONGEST_MESSAGE || image > LONGEST_IMAGE {
+        return Ok(Some(Err(Bad)));
+    }
+    let case = Case { record, buffer, fill, message: take(input, message)?, image: take(input, image)? };
+    if case.message.len() < message || case.image.len() < image {
+        return Ok(Some(Err(Bad)));
+    }
+    Ok(Some(Ok(case)))
+}
+
+/// The next bytes, fewer than wanted where the input ends first.
+fn take(input: &mut impl Read, wanted: usize) -> io::Result<Vec<u8>> {
+    let mut bytes = Vec::with_capacity(wanted);
+    input.take(wanted as u64).read_to_end(&mut bytes)?;
+    Ok(bytes)
+}
