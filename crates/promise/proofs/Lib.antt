@@ -12,3 +12,4 @@ pub mod Costs
 pub mod Visits
 pub mod Only
 pub mod Short
+pub mod Pages
