@@ -32,10 +32,10 @@ performed Message body s image room = exchange s image body room
 
 -- What a record has done where o is to come of it: the number, the answer's length, the next slot, how long the held image is, and every
 -- byte of the lent image and of the lent answer buffer: what is held, and the answer, laid over what they held.
-pub record Does (o : Outcome) (r : Done) (image image′ was holds : List ℕ) : Type 0 where
+pub record Does (o : Outcome) (r : Done) (had left was holds : List ℕ) : Type 0 where
   pub number : r .number ≡ o .number
   pub len : r .len ≡ length (o .answer)
   pub slot : r .held .slot ≡ o .slot
   pub size : r .held .size ≡ length (o .image)
-  pub image : image′ ≡ over (o .image) image
+  pub image : left ≡ over (o .image) had
   pub buffer : holds ≡ over (o .answer) was

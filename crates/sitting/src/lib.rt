@@ -6,7 +6,7 @@ use reader::Verdict;
 use records::Mark;
 use slot::Slot;
 ghost use mathlib.Core.Path.{_≡_};
-ghost use mathlib.Core.List.{[]};
+ghost use mathlib.Core.List.{List};
 ghost use Prim.Native.Nat.{ℕ, _≤_, min};
 ghost use lib.ListN.{length, take};
 ghost use Rattle.slot.specs.Slots.{removed};
@@ -74,7 +74,7 @@ fn clamp(size: usize, most: usize) -> usize
 // A card of a kind is put in. Only where it is accepted are its bytes laid into the lent image.
 fn put_in(kind: u8, card: &[u8], slot: Slot, size: usize, image: &mut [u8]) -> Done
     requires { ⌜ (length (now image) ≡ 32768) × (size ≤ 32768) ⌝ }
-    ensures { λ r. ⌜ Does (inserting slot kind (now (card .entry)) (take size (now (image .entry)))) r (now (image .entry)) (now (image .exit)) [] [] ⌝ }
+    ensures { λ r. ⌜ ((was : List ℕ) → Does (inserting slot kind (now (card .entry)) (take size (now (image .entry)))) r (now (image .entry)) (now (image .exit)) was was) ⌝ }
 {
     let reply = reader::insert(slot, kind, card);
     let verdict = reply.verdict;
@@ -101,7 +101,7 @@ fn put_in(kind: u8, card: &[u8], slot: Slot, size: usize, image: &mut [u8]) -> D
 // An insert's body is a kind byte and an image; an empty one counts as one of unknown kind, as 0 is.
 fn insert(body: &[u8], slot: Slot, size: usize, image: &mut [u8]) -> Done
     requires { ⌜ (length (now image) ≡ 32768) × (size ≤ 32768) ⌝ }
-    ensures { λ r. ⌜ Does (performed Mark.Insert (now (body .entry)) slot (take size (now (image .entry))) 271) r (now (image .entry)) (now (image .exit)) [] [] ⌝ }
+    ensures { λ r. ⌜ ((was : List ℕ) → Does (performed Mark.Insert (now (body .entry)) slot (take size (now (image .entry))) 271) r (now (image .entry)) (now (image .exit)) was was) ⌝ }
 {
     if body.len() == 0 {
         return put_in(0, body, slot, size, image);
@@ -116,7 +116,10 @@ fn remove(slot: Slot) -> Done
     Done {
         number: 0,
         len: 0,
-        held: Held { slot: next, size: 0 },
+        held: Held {
+            slot: next,
+            size: 0,
+        },
     }
 }
 
@@ -135,7 +138,13 @@ fn message(body: &[u8], slot: Slot, size: usize, image: &mut [u8], answer: &mut 
 }
 
 // One record: a match on its mark. The card's image is the front of the lent one, as long as `held` says.
-pub fn perform(mark: Mark, body: &[u8], held: Held, image: &mut [u8; 32768], answer: &mut [u8; 271]) -> Done
+pub fn perform(
+    mark: Mark,
+    body: &[u8],
+    held: Held,
+    image: &mut [u8; 32768],
+    answer: &mut [u8; 271],
+) -> Done
     ensures { λ r. ⌜ Does (performed mark (now (body .entry)) (held .slot) (take (held .size) (now (image .entry))) 271) r (now (image .entry)) (now (image .exit)) (now (answer .entry)) (now (answer .exit)) ⌝ }
 {
     let slot = held.slot;
