@@ -3,16 +3,16 @@
 use mathlib.Core.Path.{_≡_, refl, sym, ap, _∙_, subst⁻¹}
 use mathlib.Core.Bool.{Bool, true, false}
 use mathlib.Core.List.{List, [], _∷_, _++_}
-use Prim.Native.Nat.{ℕ, _≤_, _<_, min}
+use Prim.Native.Nat.{ℕ, _+_, _≤_, _<_, min}
 use native.Mathlib.Omega.{arith}
-use lib.ListN.{length, take, drop, length-take, take-append-drop}
+use lib.ListN.{length, take, drop, length-append, take-append-drop}
 use lib.Dec.{ltb}
 use lib.Seq.{length-take-le, take-all, take-append-seam}
 use Rattle.words.specs.Choice.{_⇒_⁏_, _is_}
 use Rattle.words.proofs.Lists.{over-none}
 use borrow.Author.Tests.{eq-eqb, ne-eqb, ltb-true, ltb-false}
-use Rattle.words.specs.Bytes.{over}
-use Rattle.words.proofs.Choices.{first, rest, either}
+use Rattle.words.specs.Bytes.{byte, over}
+use Rattle.words.proofs.Choices.{first, rest, either, past}
 use Rattle.card.specs.declared.Chip.{Chip}
 use Rattle.card.specs.declared.Known.{Known}
 use Rattle.card.specs.declared.Known.the-variants.{Is, Unknown}
@@ -22,7 +22,7 @@ use Rattle.card.proofs.ImageLaws.{card-parts}
 use Rattle.slot.specs.declared.Slot.{Slot}
 use Rattle.slot.specs.Slots.{occupied, removed}
 use Rattle.reader.specs.declared.Reply.{Reply}
-use Rattle.reader.specs.Exchange.{Outcome, insertion, insertedAs, number, answerLength, Gives}
+use Rattle.reader.specs.Exchange.{Outcome, insertion, insertedAs, exchange, reply, replied, number, answerLength, Gives}
 use Rattle.sitting.specs.declared.Done.{Done}
 use Rattle.sitting.specs.Sittings.{Does, performed, kept, inserting, taken}
 use Rattle.records.specs.declared.Mark.{Mark}
@@ -46,20 +46,21 @@ pub record Fair (card : List ℕ) (o : Outcome) : Type 0 where
   pub quiet : o .answer ≡ []
   pub fits : o .number ≡ 0 → length card ≤ 32768
   pub same : o .image ≡ card
+  pub small : o .number ≤ 5
 
 as-fair : (k : Known) (s : Slot) (card : List ℕ) → Fair card (insertedAs k s card)
 unfolding insertedAs
 as-fair (Is chip) s card =
     either (Fair card) (isCard (facts chip) card)
-    (λ e. record { quiet = refl; fits = λ z. omega (arith, card-parts _ card e .long, most-bytes chip); same = refl })
-    (λ e. record { quiet = refl; fits = λ z. absurd (omega (arith, z)); same = refl })
-as-fair Unknown s card = record { quiet = refl; fits = λ z. absurd (omega (arith, z)); same = refl }
+    (λ e. record { quiet = refl; fits = λ z. omega (arith, card-parts _ card e .long, most-bytes chip); same = refl; small = omega arith })
+    (λ e. record { quiet = refl; fits = λ z. absurd (omega (arith, z)); same = refl; small = omega arith })
+as-fair Unknown s card = record { quiet = refl; fits = λ z. absurd (omega (arith, z)); same = refl; small = omega arith }
 
 pub insertion-fair : (s : Slot) (kind : ℕ) (card : List ℕ) → Fair card (insertion s kind card)
 unfolding insertion
 insertion-fair s kind card =
     either (Fair card) (occupied (s .holds))
-    (λ e. record { quiet = refl; fits = λ z. absurd (omega (arith, z)); same = refl })
+    (λ e. record { quiet = refl; fits = λ z. absurd (omega (arith, z)); same = refl; small = omega arith })
     (λ e. as-fair (chipOf kind) s card)
 
 pub empty-list : (l : List ℕ) → length l ≡ 0 → l ≡ []
@@ -145,6 +146,27 @@ does-message {o} {p} {r} {back} n had h g k l t z = record {
 -- a card that is taken out: no image is held
 pub does-taken : (had was : List ℕ) {r : Done} → r .number ≡ 0 → r .len ≡ 0 → r .held .slot ≡ removed → r .held .size ≡ 0 → Does taken r had had was was
 does-taken had was k l t z = record { number = k; len = l; slot = t; size = z; image = sym (over-none had); buffer = sym (over-none was) }
+
+-- the numbers of the table, and 0
+exchange-small : (s : Slot) (image m : List ℕ) (room : ℕ) → exchange s image m room .number ≤ 5
+unfolding exchange reply replied
+exchange-small s image m room =
+    let P : Outcome → Type 0 = λ o. o .number ≤ 5 in
+    past P _ (omega arith) (λ e. past P _ (omega arith) (λ f. past P _ (omega arith) (λ g. past P _ (omega arith) (λ h. omega arith))))
+
+pub number-small : (mark : Mark) (body : List ℕ) (s : Slot) (image : List ℕ) (room : ℕ) → performed mark body s image room .number ≤ 5
+unfolding performed kept
+number-small Mark.Insert body s image room = insertion-fair s (byte body 0) (drop 1 body) .small
+number-small Mark.Remove body s image room = omega arith
+number-small Mark.Message body s image room = exchange-small s image body room
+
+-- the answer lies in the lent buffer
+pub answer-fits : {o : Outcome} {r : Done} {had left was holds : List ℕ} (n : ℕ) → Does o r had left was holds → length holds ≡ n → r .len ≤ n
+unfolding over
+answer-fits {o} {r} {had} {left} {was} n d e =
+    let l : r .len ≡ length (o .answer) = d .len in
+    let b : n ≡ length (o .answer) + length (drop (length (o .answer)) was) = sym e ∙ ap length (d .buffer) ∙ length-append (o .answer) (drop (length (o .answer)) was) in
+    omega arith
 
 -- what is held after a record is the image of its outcome: the next record goes on from there
 pub held-is : {o : Outcome} {r : Done} {had left was holds : List ℕ} → Does o r had left was holds → take (r .held .size) left ≡ o .image
