@@ -57,8 +57,8 @@ slide-more at i d {l} h e =
     let t : length (take i s) ≡ i = length-take-le i s (omega arith) in
     let n : at + i ≡ length (take i s) + at = omega (arith, t) in
     let r : getD (take i s ++ drop i d) (at + i) 0 ≡ getD s i 0 =
-        ap (λ (m : ℕ). getD (take i s ++ drop i d) m 0) n ∙ getD-append-add (take i s) (drop i d) at 0 ∙ getD-drop i d at 0
-        ∙ ap (λ (m : ℕ). getD d m 0) (add-comm i at) ∙ sym (getD-drop at d i 0) in
+    ap (λ (m : ℕ). getD (take i s ++ drop i d) m 0) n ∙ getD-append-add (take i s) (drop i d) at 0 ∙ getD-drop i d at 0
+    ∙ ap (λ (m : ℕ). getD d m 0) (add-comm i at) ∙ sym (getD-drop at d i 0) in
     ap (λ (x : List ℕ). set x i (getD x (at + i) 0)) e
     ∙ ap (set (take i s ++ drop i d) i) r
     ∙ copy-more i s d k (omega arith)

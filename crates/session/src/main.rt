@@ -221,12 +221,7 @@ fn leave(record: Record) {
 }
 
 // Record after record; the reading that is not a whole one stops it.
-fn session(
-    input: &mut [u8],
-    image: &mut [u8; 32768],
-    answer: &mut [u8; 271],
-    out: &mut [u8],
-)
+fn session(input: &mut [u8], image: &mut [u8; 32768], answer: &mut [u8; 271], out: &mut [u8])
     requires { ⌜ 549 ≤ length (now out) ⌝ }
 {
     let mut held = sitting::start();
@@ -237,7 +232,12 @@ fn session(
         at = span.at;
         end = span.end;
         let found = records::read(&input[..end], at);
-        let Record::Whole { mark, start, end: next } = found else {
+        let Record::Whole {
+            mark,
+            start,
+            end: next,
+        } = found
+        else {
             leave(found);
             break;
         };

@@ -1,32 +1,12 @@
 -- `bring` is safe and ends. The loop's invariant: what is not read yet lies in the buffer; each turn that goes on has more of it.
 use borrow.Author.Needs.{needs}
-use mathlib.Core.Path.{_≡_, refl, sym, ap, ap₂, _∙_, subst, subst⁻¹}
-use mathlib.Core.Bool.{Bool, true, false, not}
-use native.Mathlib.Omega.{arith}
-use Prim.Native.Nat.{ℕ, _+_, _-_, _*_, _/_, _%_, _≤_, _<_}
-use mathlib.Core.List.{List, [], _∷_, _++_, append-assoc}
-use lib.ListN.{length, take, drop, set, getD, length-take, length-set, length-drop, length-append}
-use borrow.Author.Tests.{eq-eqb, ne-eqb, le-leb, lt-leb, lt-ltb, le-ltb}
-use Rattle.words.proofs.Choices.{first, taken, passed}
-use Rattle.words.specs.Bytes.{byte, over}
-use Rattle.words.proofs.Lists.{over-none, tail-is, length-over, over-snoc, copy-more}
-use lib.Seq.{length-take-le, take-length, sets-eq}
-use Rattle.records.specs.declared.Mark.{Mark}
-use Rattle.session.specs.Lines.{digitOf, hex, word, shows, rest, line}
-use Rattle.sitting.proofs.Holding.{over-front}
-use Rattle.session.proofs.LineLaws.{length-hex, hex-more, over-lent, slide-more}
-use borrow.Rule.Slice.PartMut.{putMid}
-use Rattle.session.proofs.LineLaws.{rest-shown, rest-whole, rest-none, length-rest, line-lent, length-tail}
-use Rattle.sitting.proofs.Holding.{number-small, answer-fits}
-use Rattle.records.proofs.RecordLaws.{whole-within}
+use mathlib.Core.Path.{_≡_, sym}
+use mathlib.Core.Bool.{not}
+use Prim.Native.Nat.{_-_, _≤_}
+use lib.ListN.{length}
+use lib.Seq.{length-take-le}
 use Rattle.session.proofs.bring.Statement.{statement}
 use Rattle.session.proofs.bring.Tie as tie
-use Rattle.session.proofs.bring.Reads as reads
-use Rattle.session.proofs.bring.Lts as lts
-use Rattle.records.proofs.read.Reads as read-reads
-use Rattle.session.proofs.read_more.Reads as read-more-reads
-use Rattle.session.proofs.slide.Reads as slide-reads
-use Rattle.session.proofs.wants_more.Reads as wants-more-reads
 
 abbrev Inv-loop : tie.InvT-loop
 Inv-loop input₀ at₀ end₀ input at end = (at ≤ end) × (end ≤ length input) × (length input ≡ length input₀)

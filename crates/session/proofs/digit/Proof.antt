@@ -1,24 +1,11 @@
 -- `digit` meets its contract: 0 to 9, or a to f.
 use borrow.Author.Needs.{needs}
-use mathlib.Core.Path.{_≡_, refl, sym, ap, ap₂, _∙_, subst, subst⁻¹}
-use mathlib.Core.Bool.{Bool, true, false, not}
-use native.Mathlib.Omega.{arith}
-use Prim.Native.Nat.{ℕ, _+_, _-_, _*_, _/_, _%_, _≤_, _<_}
-use mathlib.Core.List.{List, [], _∷_, _++_, append-assoc}
-use lib.ListN.{length, take, drop, set, getD, length-take, length-set, length-drop, length-append}
-use borrow.Author.Tests.{eq-eqb, ne-eqb, le-leb, lt-leb, lt-ltb, le-ltb}
-use Rattle.words.proofs.Choices.{first, taken, passed}
-use Rattle.words.specs.Bytes.{byte, over}
-use Rattle.words.proofs.Lists.{over-none, tail-is, length-over, over-snoc, copy-more}
-use lib.Seq.{length-take-le, take-length, sets-eq}
-use Rattle.records.specs.declared.Mark.{Mark}
-use Rattle.session.specs.Lines.{digitOf, hex, word, shows, rest, line}
-use Rattle.sitting.proofs.Holding.{over-front}
-use Rattle.session.proofs.LineLaws.{length-hex, hex-more, over-lent, slide-more}
+use mathlib.Core.Path.{refl}
+use borrow.Author.Tests.{lt-ltb, le-ltb}
+use Rattle.words.proofs.Choices.{taken, passed}
+use Rattle.session.specs.Lines.{digitOf}
 use Rattle.session.proofs.digit.Statement.{statement}
 use Rattle.session.proofs.digit.Tie as tie
-use Rattle.session.proofs.digit.Reads as reads
-use Rattle.session.proofs.digit.Lts as lts
 
 add-result : tie.Need-add-result
 add-result c = search needs

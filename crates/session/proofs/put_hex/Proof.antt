@@ -1,26 +1,17 @@
 -- `put_hex` meets its contract. The loop's invariant: the bytes so far stand in hex, two digits each.
 use borrow.Author.Needs.{needs}
-use mathlib.Core.Path.{_≡_, refl, sym, ap, ap₂, _∙_, subst, subst⁻¹}
-use mathlib.Core.Bool.{Bool, true, false, not}
+use mathlib.Core.Path.{_≡_, refl, sym, ap, ap₂, _∙_}
 use native.Mathlib.Omega.{arith}
-use Prim.Native.Nat.{ℕ, _+_, _-_, _*_, _/_, _%_, _≤_, _<_}
-use mathlib.Core.List.{List, [], _∷_, _++_, append-assoc}
-use lib.ListN.{length, take, drop, set, getD, length-take, length-set, length-drop, length-append}
-use borrow.Author.Tests.{eq-eqb, ne-eqb, le-leb, lt-leb, lt-ltb, le-ltb}
-use Rattle.words.proofs.Choices.{first, taken, passed}
-use Rattle.words.specs.Bytes.{byte, over}
-use Rattle.words.proofs.Lists.{over-none, tail-is, length-over, over-snoc, copy-more}
-use lib.Seq.{length-take-le, take-length, sets-eq}
-use Rattle.records.specs.declared.Mark.{Mark}
-use Rattle.session.specs.Lines.{digitOf, hex, word, shows, rest, line}
-use Rattle.sitting.proofs.Holding.{over-front}
-use Rattle.session.proofs.LineLaws.{length-hex, hex-more, over-lent, slide-more}
+use Prim.Native.Nat.{ℕ, _+_, _-_, _*_, _≤_}
+use mathlib.Core.List.{List}
+use lib.ListN.{length, take, set}
+use Rattle.words.specs.Bytes.{over}
+use Rattle.words.proofs.Lists.{over-none}
+use lib.Seq.{take-length}
+use Rattle.session.specs.Lines.{hex}
+use Rattle.session.proofs.LineLaws.{hex-more}
 use Rattle.session.proofs.put_hex.Statement.{statement}
 use Rattle.session.proofs.put_hex.Tie as tie
-use Rattle.session.proofs.put_hex.Reads as reads
-use Rattle.session.proofs.put_hex.Lts as lts
-use Rattle.session.proofs.digit.Reads as digit-reads
-use Rattle.words.proofs.put_two.Reads as put-two-reads
 
 abbrev Inv-loop : tie.InvT-loop
 Inv-loop bytes out₀ at₀ i₀ out at i = (i ≤ length bytes) × (length out ≡ length out₀) × (at ≡ 2 * i) × (out ≡ over (hex (take i bytes)) out₀)
@@ -56,15 +47,14 @@ loop-again c =
     let l = c .before .before .before .before .before .before .before .before .loop in
     let t = c .before .before .put-two .ensures in
     let b : List ℕ = a .bytes .now in
-    let o : List ℕ = a .out .now in
-    (
-        omega arith,
-        c .before .before .put-two .kept .0 ∙ l .inv .1,
-        omega (arith, t .0, l .inv .2),
-        t .1
-        ∙ ap (λ (x : List ℕ). set (set x (l .at) (c .before .before .before .before .digit .result)) (l .at + 1) (c .before .before .before .digit2 .result)) (l .inv .3)
-        ∙ ap₂ (λ (u v : ℕ). set (set (over (hex (take (l .i) b)) o) (l .at) u) (l .at + 1) v) (c .before .before .before .before .digit .ensures) (c .before .before .before .digit2 .ensures)
-        ∙ hex-more b o (l .i) (l .at) (omega arith) (l .inv .2) (omega (arith, l .inv .2, l .inv .0)),
+    let o : List ℕ = a .out .now in (
+      omega arith,
+      c .before .before .put-two .kept .0 ∙ l .inv .1,
+      omega (arith, t .0, l .inv .2),
+      t .1
+          ∙ ap (λ (x : List ℕ). set (set x (l .at) (c .before .before .before .before .digit .result)) (l .at + 1) (c .before .before .before .digit2 .result)) (l .inv .3)
+          ∙ ap₂ (λ (u v : ℕ). set (set (over (hex (take (l .i) b)) o) (l .at) u) (l .at + 1) v) (c .before .before .before .before .digit .ensures) (c .before .before .before .digit2 .ensures)
+          ∙ hex-more b o (l .i) (l .at) (omega arith) (l .inv .2) (omega (arith, l .inv .2, l .inv .0)),
     )
 
 same-length : tie.Need-same-length Inv-loop μ-loop

@@ -1,31 +1,17 @@
 -- `put_line` meets its contract: the word, the number, and what stands behind it, laid one after the other.
 use borrow.Author.Needs.{needs}
-use mathlib.Core.Path.{_≡_, refl, sym, ap, ap₂, _∙_, subst, subst⁻¹}
-use mathlib.Core.Bool.{Bool, true, false, not}
+use mathlib.Core.Path.{_≡_, ap, _∙_}
+use mathlib.Core.Bool.{Bool}
 use native.Mathlib.Omega.{arith}
-use Prim.Native.Nat.{ℕ, _+_, _-_, _*_, _/_, _%_, _≤_, _<_}
-use mathlib.Core.List.{List, [], _∷_, _++_, append-assoc}
-use lib.ListN.{length, take, drop, set, getD, length-take, length-set, length-drop, length-append}
-use borrow.Author.Tests.{eq-eqb, ne-eqb, le-leb, lt-leb, lt-ltb, le-ltb}
-use Rattle.words.proofs.Choices.{first, taken, passed}
-use Rattle.words.specs.Bytes.{byte, over}
-use Rattle.words.proofs.Lists.{over-none, tail-is, length-over, over-snoc, copy-more}
-use lib.Seq.{length-take-le, take-length, sets-eq}
-use Rattle.records.specs.declared.Mark.{Mark}
-use Rattle.session.specs.Lines.{digitOf, hex, word, shows, rest, line}
-use Rattle.sitting.proofs.Holding.{over-front}
-use Rattle.session.proofs.LineLaws.{length-hex, hex-more, over-lent, slide-more}
-use borrow.Rule.Slice.PartMut.{putMid}
-use Rattle.session.proofs.LineLaws.{rest-shown, rest-whole, rest-none, length-rest, line-lent, length-tail}
-use Rattle.sitting.proofs.Holding.{number-small, answer-fits}
-use Rattle.records.proofs.RecordLaws.{whole-within}
+use Prim.Native.Nat.{ℕ, _+_, _≤_}
+use mathlib.Core.List.{List, _∷_, _++_}
+use lib.ListN.{length, set, length-set, length-append}
+use Rattle.words.specs.Bytes.{over}
+use Rattle.words.proofs.Lists.{length-over}
+use Rattle.session.specs.Lines.{word, shows, rest, line}
+use Rattle.session.proofs.LineLaws.{line-lent, length-tail}
 use Rattle.session.proofs.put_line.Statement.{statement}
 use Rattle.session.proofs.put_line.Tie as tie
-use Rattle.session.proofs.put_line.Reads as reads
-use Rattle.session.proofs.put_line.Lts as lts
-use Rattle.session.proofs.put_rest.Reads as put-rest-reads
-use Rattle.session.proofs.put_word.Reads as put-word-reads
-use Rattle.session.proofs.shown.Reads as shown-reads
 
 put-word-requires : tie.Need-put-word-requires
 put-word-requires c κs = search needs

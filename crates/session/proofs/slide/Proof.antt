@@ -1,24 +1,17 @@
 -- `slide` meets its contract. The loop's invariant: so many of the bytes from the place on, and behind them the buffer as it was.
 use borrow.Author.Needs.{needs}
-use mathlib.Core.Path.{_≡_, refl, sym, ap, ap₂, _∙_, subst, subst⁻¹}
-use mathlib.Core.Bool.{Bool, true, false, not}
+use mathlib.Core.Path.{_≡_, sym, ap, _∙_}
 use native.Mathlib.Omega.{arith}
-use Prim.Native.Nat.{ℕ, _+_, _-_, _*_, _/_, _%_, _≤_, _<_}
-use mathlib.Core.List.{List, [], _∷_, _++_, append-assoc}
-use lib.ListN.{length, take, drop, set, getD, length-take, length-set, length-drop, length-append}
-use borrow.Author.Tests.{eq-eqb, ne-eqb, le-leb, lt-leb, lt-ltb, le-ltb}
-use Rattle.words.proofs.Choices.{first, taken, passed}
-use Rattle.words.specs.Bytes.{byte, over}
-use Rattle.words.proofs.Lists.{over-none, tail-is, length-over, over-snoc, copy-more}
-use lib.Seq.{length-take-le, take-length, sets-eq}
-use Rattle.records.specs.declared.Mark.{Mark}
-use Rattle.session.specs.Lines.{digitOf, hex, word, shows, rest, line}
+use Prim.Native.Nat.{ℕ, _-_, _≤_}
+use mathlib.Core.List.{List, _++_}
+use lib.ListN.{length, take, drop, length-set, length-drop}
+use Rattle.words.proofs.Choices.{taken}
+use Rattle.words.specs.Bytes.{over}
+use lib.Seq.{length-take-le}
 use Rattle.sitting.proofs.Holding.{over-front}
-use Rattle.session.proofs.LineLaws.{length-hex, hex-more, over-lent, slide-more}
+use Rattle.session.proofs.LineLaws.{slide-more}
 use Rattle.session.proofs.slide.Statement.{statement}
 use Rattle.session.proofs.slide.Tie as tie
-use Rattle.session.proofs.slide.Reads as reads
-use Rattle.session.proofs.slide.Lts as lts
 
 abbrev Inv-loop : tie.InvT-loop
 Inv-loop input₀ at n i₀ input i = (i ≤ n) × (length input ≡ length input₀) × (input ≡ take i (drop at input₀) ++ drop i input₀)
