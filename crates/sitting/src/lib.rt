@@ -1,0 +1,157 @@
+// A sitting at the reader: one record after another, each done to the slot record and the card image that the last one left.
+// No public function has a `requires`: any record, any body and whatever is held has its one outcome.
+
+use reader::Refusal;
+use reader::Verdict;
+use records::Mark;
+use slot::Slot;
+ghost use mathlib.Core.Path.{_≡_};
+ghost use mathlib.Core.List.{List};
+ghost use Prim.Native.Nat.{ℕ, _≤_, min};
+ghost use lib.ListN.{length, take};
+ghost use Rattle.slot.specs.Slots.{removed};
+ghost use Rattle.reader.specs.Exchange.{number, numberOf, answerLength, exchange};
+ghost use Rattle.sitting.specs.Sittings.{inserting, taken, performed, Does};
+
+// What is held from record to record: the slot record, and how many bytes of the lent image are the card's.
+pub struct Held {
+    pub slot: Slot,
+    pub size: usize,
+}
+
+// A record that is done: its number, the length of its answer, and what is held now.
+pub struct Done {
+    pub number: u8,
+    pub len: usize,
+    pub held: Held,
+}
+
+// The empty sound slot, and no image.
+pub fn start() -> Held
+    ensures { λ r. ⌜ (r .slot ≡ removed) × (r .size ≡ 0) ⌝ }
+{
+    let slot = slot::empty();
+    Held { slot, size: 0 }
+}
+
+fn refusal_number(refusal: Refusal) -> u8
+    ensures { λ r. ⌜ r ≡ numberOf refusal ⌝ }
+{
+    match refusal {
+        Refusal::Buffer => 1,
+        Refusal::Message => 2,
+        Refusal::Image => 3,
+        Refusal::Record => 4,
+        Refusal::Occupied => 5,
+    }
+}
+
+fn number_of(verdict: Verdict) -> u8
+    ensures { λ r. ⌜ r ≡ number verdict ⌝ }
+{
+    match verdict {
+        Verdict::Answered(_) => 0,
+        Verdict::Refused(refusal) => refusal_number(refusal),
+    }
+}
+
+fn length_of(verdict: Verdict) -> usize
+    ensures { λ r. ⌜ r ≡ answerLength verdict ⌝ }
+{
+    match verdict {
+        Verdict::Answered(len) => len,
+        Verdict::Refused(_) => 0,
+    }
+}
+
+// No more than the image has.
+fn clamp(size: usize, most: usize) -> usize
+    ensures { λ r. ⌜ r ≡ min size most ⌝ }
+{
+    if size < most { size } else { most }
+}
+
+// A card of a kind is put in. Only where it is accepted are its bytes laid into the lent image.
+fn put_in(kind: u8, card: &[u8], slot: Slot, size: usize, image: &mut [u8]) -> Done
+    requires { ⌜ (length (now image) ≡ 32768) × (size ≤ 32768) ⌝ }
+    ensures { λ r. ⌜ ((was : List ℕ) → Does (inserting slot kind (now (card .entry)) (take size (now (image .entry)))) r (now (image .entry)) (now (image .exit)) was was) ⌝ }
+{
+    let reply = reader::insert(slot, kind, card);
+    let verdict = reply.verdict;
+    let next = reply.slot;
+    let number = number_of(verdict);
+    if number != 0 {
+        return Done {
+            number,
+            len: 0,
+            held: Held { slot: next, size },
+        };
+    }
+    words::lay(card, image);
+    Done {
+        number,
+        len: 0,
+        held: Held {
+            slot: next,
+            size: card.len(),
+        },
+    }
+}
+
+// An insert's body is a kind byte and an image; an empty one counts as one of unknown kind, as 0 is.
+fn insert(body: &[u8], slot: Slot, size: usize, image: &mut [u8]) -> Done
+    requires { ⌜ (length (now image) ≡ 32768) × (size ≤ 32768) ⌝ }
+    ensures { λ r. ⌜ ((was : List ℕ) → Does (performed Mark.Insert (now (body .entry)) slot (take size (now (image .entry))) 271) r (now (image .entry)) (now (image .exit)) was was) ⌝ }
+{
+    if body.len() == 0 {
+        return put_in(0, body, slot, size, image);
+    }
+    put_in(body[0], &body[1..], slot, size, image)
+}
+
+fn remove(slot: Slot) -> Done
+    ensures { λ r. ⌜ (r .number ≡ 0) × (r .len ≡ 0) × (r .held .slot ≡ removed) × (r .held .size ≡ 0) ⌝ }
+{
+    let next = reader::remove(slot);
+    Done {
+        number: 0,
+        len: 0,
+        held: Held {
+            slot: next,
+            size: 0,
+        },
+    }
+}
+
+fn message(body: &[u8], slot: Slot, size: usize, image: &mut [u8], answer: &mut [u8]) -> Done
+    requires { ⌜ size ≤ length (now image) ⌝ }
+    ensures { λ r. ⌜ Does (exchange slot (take size (now (image .entry))) (now (body .entry)) (length (now (answer .entry)))) r (now (image .entry)) (now (image .exit)) (now (answer .entry)) (now (answer .exit)) ⌝ }
+{
+    let reply = reader::message(slot, &mut image[..size], body, answer);
+    let verdict = reply.verdict;
+    let next = reply.slot;
+    Done {
+        number: number_of(verdict),
+        len: length_of(verdict),
+        held: Held { slot: next, size },
+    }
+}
+
+// One record: a match on its mark. The card's image is the front of the lent one, as long as `held` says.
+pub fn perform(
+    mark: Mark,
+    body: &[u8],
+    held: Held,
+    image: &mut [u8; 32768],
+    answer: &mut [u8; 271],
+) -> Done
+    ensures { λ r. ⌜ Does (performed mark (now (body .entry)) (held .slot) (take (held .size) (now (image .entry))) 271) r (now (image .entry)) (now (image .exit)) (now (answer .entry)) (now (answer .exit)) ⌝ }
+{
+    let slot = held.slot;
+    let size = clamp(held.size, 32768);
+    match mark {
+        Mark::Insert => insert(body, slot, size, image),
+        Mark::Remove => remove(slot),
+        Mark::Message => message(body, slot, size, image, answer),
+    }
+}
