@@ -1,0 +1,3 @@
+pub mod RawLaws
+pub mod Lengths
+pub mod Results

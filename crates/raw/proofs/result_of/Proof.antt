@@ -1,0 +1,61 @@
+-- `result_of` meets its contract: an answer's length fits, and a refusal has its number.
+use borrow.Author.Needs.{needs}
+use mathlib.Core.Path.{_≡_, refl, sym, ap, ap₂, _∙_, subst, subst⁻¹}
+use mathlib.Core.Bool.{Bool, true, false, not}
+use native.Mathlib.Omega.{arith}
+use Prim.Native.Nat.{ℕ, _+_, _-_, _*_, _/_, _%_, _^_, _≤_, _<_}
+use borrow.Author.Tests.{eq-eqb, ne-eqb, le-leb, lt-leb, lt-ltb, le-ltb, not-true, not-false, eqb-true}
+use lib.ListN.{length, take, drop, set, getD, replicate, length-set, length-take, length-drop, length-append}
+use mathlib.Core.List.{List, [], _∷_, _++_}
+use Rattle.words.proofs.Choices.{first, rest, taken, met, passed, and-fails, and-holds, and-true, or-taken, or-passed}
+use Rattle.words.specs.Choice.{_⇒_⁏_, _and_, _or_, _is_, _isnt_}
+use Rattle.words.specs.Bytes.{byte, over}
+use Rattle.raw.specs.Raw.{kindOf, flagOf, rawOf, blank, slotFrom, slotWith, cardWith, slotOf, brokenAs, keeping, readExchange, rawExchange, rawInsertion, rawRemoval, rawly, RawGives, resultOf}
+use Rattle.raw.proofs.RawLaws.{blank-step, blank-end, raw-is, raw-down, raw-kept, over-whole, found-long, number-not}
+use Rattle.reader.specs.declared.Refusal.{Refusal}
+use Rattle.reader.specs.declared.Verdict.{Verdict}
+use Rattle.reader.specs.Exchange.{number, numberOf, answerLength, exchange, insertion}
+use Rattle.slot.specs.declared.Slot.{Slot}
+use Rattle.slot.specs.declared.Holds.{Holds}
+use Rattle.slot.specs.Slots.{removed, imageIsCard}
+use Rattle.card.specs.declared.Known.{Known}
+use Rattle.card.specs.Kinds.{chipOf}
+use Rattle.raw.specs.declared.Reading.{Reading}
+use mir.Syntax.{w32}
+use mir.ValLaws.{toZ-pos}
+use mir.Val.{toZ, ofZ}
+use lib.IntN.{ℤ}
+use Rattle.raw.proofs.Results.{refusal-number}
+use Rattle.raw.proofs.result_of.Statement.{statement}
+use Rattle.raw.proofs.result_of.Tie as tie
+use Rattle.raw.proofs.result_of.Reads as reads
+use Rattle.raw.proofs.result_of.Lts as lts
+use Rattle.raw.proofs.minus.Reads as minus-reads
+
+enum-known-verdict : tie.Need-enum-known-verdict
+enum-known-verdict c = search needs
+
+cast-result : tie.Need-cast-result
+cast-result c =
+    let e : answerLength (c .before .before .before .args .verdict) ≡ c .before .verdict .given .0 .0 = ap answerLength (c .before .verdict .given .1) in
+    record { sfits = omega (arith, e, c .before .before .before .pre) }
+
+enum-known-verdict-2 : tie.Need-enum-known-verdict-2
+enum-known-verdict-2 c = search needs
+
+minus-requires : tie.Need-minus-requires
+minus-requires c κs = search needs
+
+returns : tie.Need-returns
+returns c =
+    let n = c .before .verdict .given .0 .0 in
+    let e : answerLength (c .before .before .before .args .verdict) ≡ n = ap answerLength (c .before .verdict .given .1) in
+    toZ-pos w32 n (omega (arith, e, c .before .before .before .pre)) ∙ sym (ap (λ (v : Verdict). resultOf (number v) (answerLength v)) (c .before .verdict .given .1))
+
+returns-2 : tie.Need-returns-2
+returns-2 c = ap (λ (z : ℤ). toZ w32 (ofZ w32 z)) (c .minus .ensures) ∙ refusal-number (c .before .before .verdict2 .given .0 .0) ∙ sym (ap (λ (v : Verdict). resultOf (number v) (answerLength v)) (c .before .before .verdict2 .given .1))
+
+pub result-of-spec : {M : Type 1} → statement M
+result-of-spec =
+    tie.close
+    (tie.spec enum-known-verdict cast-result enum-known-verdict-2 minus-requires returns returns-2)
