@@ -221,7 +221,12 @@ fn result_of(verdict: Verdict) -> i32
 
 // One host message: the answer's length, or the refusal's number as a negative.
 #[no_mangle]
-pub extern "C" fn card_reader_message(raw: &mut [u8], image: &mut [u8], message: &[u8], answer: &mut [u8]) -> i32
+pub extern "C" fn card_reader_message(
+    raw: &mut [u8],
+    image: &mut [u8],
+    message: &[u8],
+    answer: &mut [u8],
+) -> i32
     ensures { λ r. ⌜ Returns (rawExchange (now (raw .entry)) (now (image .entry)) (now (message .entry)) (length (now (answer .entry)))) r (now (raw .exit)) (now (image .exit)) (now (answer .entry)) (now (answer .exit)) ⌝ }
 {
     let verdict = self::message(raw, image, message, answer);
