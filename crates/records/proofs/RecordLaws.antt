@@ -1,14 +1,13 @@
--- Laws of records: a whole one lies in the slice, and the next place is past it.
-use mathlib.Core.Path.{_≡_, refl, subst}
-use mathlib.Core.Bool.{Bool, true, false}
-use mathlib.Core.List.{List}
-use Prim.Native.Nat.{ℕ, _+_, _-_, _≤_, _<_}
+-- Laws of records: a whole one lies in the slice, the next place is past it, and what comes behind does not change it.
+use mathlib.Core.Path.{_≡_, refl, ap, ap₂, _∙_, subst}
+use mathlib.Core.List.{List, _++_}
+use Prim.Native.Nat.{ℕ, _+_, _-_, _*_, _≤_, _<_}
 use native.Mathlib.Omega.{arith}
-use lib.ListN.{length}
+use lib.ListN.{length, take, length-append, List·getD-append}
+use lib.Seq.{length-take-le}
 use lib.Dec.{ltb, leb}
-use borrow.Author.Tests.{ltb-false}
-use Rattle.words.specs.Choice.{_⇒_⁏_}
-use Rattle.words.proofs.Choices.{either}
+use borrow.Author.Tests.{ltb-false, le-ltb, lt-leb}
+use Rattle.words.proofs.Choices.{first, rest, either}
 use Rattle.records.specs.declared.Mark.{Mark}
 use Rattle.records.specs.declared.Marked.{Marked}
 use Rattle.records.specs.declared.Marked.the-variants.{Is, Other}
@@ -51,8 +50,51 @@ record-lies l at =
 pub whole-within : (l : List ℕ) (at : ℕ) {mark : Mark} {start end : ℕ} → recordAt l at ≡ Whole mark start end → Within l at mark start end
 whole-within l at e = subst (Lies l at) e (record-lies l at)
 
--- "progress": the next place is past the record
+-- the same where the slice is the front of a buffer, n bytes long
+pub front-within : (l : List ℕ) (n at : ℕ) {mark : Mark} {start end : ℕ} → n ≤ length l → recordAt (take n l) at ≡ Whole mark start end → (start ≤ end) × (end ≤ n)
+front-within l n at h e =
+    let w = whole-within (take n l) at e in
+    (w .ends, omega (arith, w .held, length-take-le n l h))
+
+-- a loop that goes on from the end of a whole record gets on
 pub whole-past : (l : List ℕ) (at : ℕ) {mark : Mark} {start end : ℕ} → recordAt l at ≡ Whole mark start end → at < end
 whole-past l at e =
     let w = whole-within l at e in
     omega (arith, w .starts, w .ends)
+
+-- ---- more input
+-- a reading that is whole or bad does not depend on what comes behind
+abbrev pub Stays : List ℕ → ℕ → Record → Type 0
+Stays l at (Whole mark start end) = recordAt l at ≡ Whole mark start end
+Stays l at Cut = Unit {0}
+Stays l at Bad = recordAt l at ≡ Bad
+Stays l at End = Unit {0}
+
+same-length-at : (l more : List ℕ) (at : ℕ) → 4 ≤ length l - at → lengthAt (l ++ more) at ≡ lengthAt l at
+same-length-at l more at h =
+    ap₂ (λ (a b : ℕ). a + 256 * b) (List·getD-append l more 0 (at + 2) (omega arith)) (List·getD-append l more 0 (at + 3) (omega arith))
+
+same-word-at : (l more : List ℕ) (at : ℕ) → 4 ≤ length l - at → wordAt (l ++ more) at ≡ wordAt l at
+same-word-at l more at h = ap₂ (λ (a b : ℕ). 256 * a + b) (List·getD-append l more 0 at (omega arith)) (List·getD-append l more 0 (at + 1) (omega arith))
+
+body-stays : (k : Marked) (l more : List ℕ) (at : ℕ) → 4 ≤ length l - at → recordAt (l ++ more) at ≡ bodyAt k (l ++ more) at → Stays (l ++ more) at (bodyAt k l at)
+unfolding bodyAt
+body-stays (Is mark) l more at h r =
+    let n = same-length-at l more at h in
+    either (Stays (l ++ more) at) (ltb (most mark) (lengthAt l at)) (λ e. r ∙ first _ _ (ap (ltb (most mark)) n ∙ e)) (λ e.
+    either (Stays (l ++ more) at) (ltb (length l - (at + 4)) (lengthAt l at)) (λ f. tt) (λ f.
+    let g : lengthAt l at ≤ length l - (at + 4) = ltb-false _ _ f in
+    let q : lengthAt (l ++ more) at ≤ length (l ++ more) - (at + 4) = omega (arith, g, n, length-append l more) in
+    r ∙ rest _ _ (ap (ltb (most mark)) n ∙ e) ∙ rest _ _ (le-ltb _ _ q) ∙ ap (λ (m : ℕ). Whole mark (at + 4) (at + 4 + m)) n))
+body-stays Other l more at h r = r
+
+pub record-stays : (l more : List ℕ) (at : ℕ) → Stays (l ++ more) at (recordAt l at)
+unfolding recordAt
+record-stays l more at =
+    either (Stays (l ++ more) at) (leb (length l) at) (λ e. tt) (λ e.
+    either (Stays (l ++ more) at) (ltb (length l - at) 4) (λ f. tt) (λ f.
+    let h : 4 ≤ length l - at = ltb-false _ _ f in
+    let a : at < length (l ++ more) = omega (arith, h, length-append l more) in
+    let b : 4 ≤ length (l ++ more) - at = omega (arith, h, length-append l more) in
+    body-stays (markOf (wordAt l at)) l more at h
+    (rest _ _ (lt-leb _ _ a) ∙ rest _ _ (le-ltb _ 4 b) ∙ ap (λ (w : ℕ). bodyAt (markOf w) (l ++ more) at) (same-word-at l more at h))))

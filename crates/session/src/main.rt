@@ -8,12 +8,13 @@ use records::Record;
 use sitting::Held;
 use words::put_two;
 ghost use mathlib.Core.Path.{_≡_};
-ghost use Prim.Native.Nat.{ℕ, _+_, _-_, _*_, _≤_, _<_};
+ghost use Prim.Native.Nat.{_+_, _-_, _*_, _≤_, _<_};
 ghost use lib.ListN.{length, take, drop};
 ghost use Rattle.words.specs.Bytes.{over};
 ghost use Rattle.session.specs.Lines.{digitOf, hex, word, shows, rest, line};
 
-// How many records a session has at most: nothing says that the input ends, and at a record each nanosecond this is a hundred years.
+// The most records of a session. Nothing says that the input ends, so the loop counts: at a record each nanosecond, to this number takes
+// more than a hundred years.
 const RECORDS: u64 = 4000000000000000000;
 
 // What of the input has come and is not read yet.

@@ -11,7 +11,7 @@ ghost use Prim.Native.Nat.{ℕ, _≤_, min};
 ghost use lib.ListN.{length, take};
 ghost use Rattle.slot.specs.Slots.{removed};
 ghost use Rattle.reader.specs.Exchange.{number, numberOf, answerLength, exchange};
-ghost use Rattle.sitting.specs.Sittings.{inserting, taken, performed, Does};
+ghost use Rattle.sitting.specs.Sittings.{inserting, performed, Does};
 
 // What is held from record to record: the slot record, and how many bytes of the lent image are the card's.
 pub struct Held {

@@ -3,11 +3,10 @@ use borrow.Author.Needs.{needs}
 use mathlib.Core.Path.{_≡_, sym, _∙_}
 use mathlib.Core.Bool.{not}
 use native.Mathlib.Omega.{arith}
-use Prim.Native.Nat.{ℕ, _-_, _≤_}
-use mathlib.Core.List.{List}
-use lib.ListN.{length, take}
+use Prim.Native.Nat.{_-_, _≤_}
+use lib.ListN.{length}
 use lib.Seq.{length-take-le}
-use Rattle.records.proofs.RecordLaws.{whole-within}
+use Rattle.records.proofs.RecordLaws.{front-within}
 use Rattle.session.proofs.session.Statement.{statement}
 use Rattle.session.proofs.session.Tie as tie
 
@@ -44,26 +43,23 @@ leave-requires c κs = search needs
 sub-turn : tie.Need-sub-turn Inv-loop μ-loop
 sub-turn c =
     let b = c .before .before .before .before .before .before .before .bring .result in
-    let l : List ℕ = c .before .before .before .before .before .before .before .bring .last .0 in
-    let k = length-take-le (b .end) l (omega (arith, c .before .before .before .before .before .before .before .bring .ensures .1, c .before .before .before .before .before .before .before .bring .kept .0)) in
-    let w = whole-within (take (b .end) l) (b .at) (sym (c .before .before .before .read .ensures) ∙ c .before .found .given .1) in
-    omega (arith, k, w .starts, w .ends, w .held, c .before .before .before .before .before .before .before .bring .ensures .0, c .before .before .before .before .before .before .before .bring .ensures .1, c .before .before .before .before .before .before .before .bring .kept .0)
+    let h : b .end ≤ length (c .before .before .before .before .before .before .before .bring .last .0) = omega (arith, c .before .before .before .before .before .before .before .bring .ensures .1, c .before .before .before .before .before .before .before .bring .kept .0) in
+    let w = front-within (c .before .before .before .before .before .before .before .bring .last .0) (b .end) (b .at) h (sym (c .before .before .before .read .ensures) ∙ c .before .found .given .1) in
+    omega (arith, w .0, w .1, h)
 
 part-turn-start : tie.Need-part-turn-start Inv-loop μ-loop
 part-turn-start c =
     let b = c .before .before .before .before .before .before .before .before .bring .result in
-    let l : List ℕ = c .before .before .before .before .before .before .before .before .bring .last .0 in
-    let k = length-take-le (b .end) l (omega (arith, c .before .before .before .before .before .before .before .before .bring .ensures .1, c .before .before .before .before .before .before .before .before .bring .kept .0)) in
-    let w = whole-within (take (b .end) l) (b .at) (sym (c .before .before .before .before .read .ensures) ∙ c .before .before .found .given .1) in
-    omega (arith, k, w .starts, w .ends, w .held, c .before .before .before .before .before .before .before .before .bring .ensures .0, c .before .before .before .before .before .before .before .before .bring .ensures .1, c .before .before .before .before .before .before .before .before .bring .kept .0)
+    let h : b .end ≤ length (c .before .before .before .before .before .before .before .before .bring .last .0) = omega (arith, c .before .before .before .before .before .before .before .before .bring .ensures .1, c .before .before .before .before .before .before .before .before .bring .kept .0) in
+    let w = front-within (c .before .before .before .before .before .before .before .before .bring .last .0) (b .end) (b .at) h (sym (c .before .before .before .before .read .ensures) ∙ c .before .before .found .given .1) in
+    omega (arith, w .0, w .1, h)
 
 part-turn-end : tie.Need-part-turn-end Inv-loop μ-loop
 part-turn-end c =
     let b = c .before .before .before .before .before .before .before .before .bring .result in
-    let l : List ℕ = c .before .before .before .before .before .before .before .before .bring .last .0 in
-    let k = length-take-le (b .end) l (omega (arith, c .before .before .before .before .before .before .before .before .bring .ensures .1, c .before .before .before .before .before .before .before .before .bring .kept .0)) in
-    let w = whole-within (take (b .end) l) (b .at) (sym (c .before .before .before .before .read .ensures) ∙ c .before .before .found .given .1) in
-    omega (arith, k, w .starts, w .ends, w .held, c .before .before .before .before .before .before .before .before .bring .ensures .0, c .before .before .before .before .before .before .before .before .bring .ensures .1, c .before .before .before .before .before .before .before .before .bring .kept .0)
+    let h : b .end ≤ length (c .before .before .before .before .before .before .before .before .bring .last .0) = omega (arith, c .before .before .before .before .before .before .before .before .bring .ensures .1, c .before .before .before .before .before .before .before .before .bring .kept .0) in
+    let w = front-within (c .before .before .before .before .before .before .before .before .bring .last .0) (b .end) (b .at) h (sym (c .before .before .before .before .read .ensures) ∙ c .before .before .found .given .1) in
+    omega (arith, w .0, w .1, h)
 
 turn-requires : tie.Need-turn-requires Inv-loop μ-loop
 turn-requires c κs = search needs
@@ -77,10 +73,9 @@ loop-less c = search needs
 loop-again : tie.Need-loop-again Inv-loop μ-loop
 loop-again c =
     let b = c .before .before .before .before .before .before .before .before .before .before .before .before .before .before .before .bring .result in
-    let l : List ℕ = c .before .before .before .before .before .before .before .before .before .before .before .before .before .before .before .bring .last .0 in
-    let k = length-take-le (b .end) l (omega (arith, c .before .before .before .before .before .before .before .before .before .before .before .before .before .before .before .bring .ensures .1, c .before .before .before .before .before .before .before .before .before .before .before .before .before .before .before .bring .kept .0)) in
-    let w = whole-within (take (b .end) l) (b .at) (sym (c .before .before .before .before .before .before .before .before .before .before .before .read .ensures) ∙ c .before .before .before .before .before .before .before .before .before .found .given .1) in
-    (omega (arith, k, w .held), omega (arith, c .before .before .before .before .before .before .before .before .before .before .before .before .before .before .before .bring .ensures .1, c .before .before .before .before .before .before .before .before .before .before .before .before .before .before .before .bring .kept .0), c .before .before .before .before .before .before .before .before .before .before .before .before .before .before .before .bring .kept .0 ∙ c .before .before .before .before .before .before .before .before .before .before .before .before .before .before .before .before .before .before .loop .inv .2, c .before .before .turn .kept .1 .1 .1 .1 .1 .0 ∙ c .before .before .before .before .before .before .before .before .before .before .before .before .before .before .before .before .before .before .loop .inv .3, omega arith)
+    let h : b .end ≤ length (c .before .before .before .before .before .before .before .before .before .before .before .before .before .before .before .bring .last .0) = omega (arith, c .before .before .before .before .before .before .before .before .before .before .before .before .before .before .before .bring .ensures .1, c .before .before .before .before .before .before .before .before .before .before .before .before .before .before .before .bring .kept .0) in
+    let w = front-within (c .before .before .before .before .before .before .before .before .before .before .before .before .before .before .before .bring .last .0) (b .end) (b .at) h (sym (c .before .before .before .before .before .before .before .before .before .before .before .read .ensures) ∙ c .before .before .before .before .before .before .before .before .before .found .given .1) in
+    (w .1, h, c .before .before .before .before .before .before .before .before .before .before .before .before .before .before .before .bring .kept .0 ∙ c .before .before .before .before .before .before .before .before .before .before .before .before .before .before .before .before .before .before .loop .inv .2, c .before .before .turn .kept .1 .1 .1 .1 .1 .0 ∙ c .before .before .before .before .before .before .before .before .before .before .before .before .before .before .before .before .before .before .loop .inv .3, omega arith)
 
 same-length : tie.Need-same-length Inv-loop μ-loop
 same-length c = search needs
