@@ -1,10 +1,10 @@
 -- "No answer is longer than 267 bytes": the header, and what a command says.
-use mathlib.Core.Path.{_≡_, refl, sym, ap, _∙_, subst⁻¹}
-use Prim.Native.Nat.{ℕ, _+_, _≤_, _<_}
-use mathlib.Core.Bool.{Bool, true, false, not}
-use mathlib.Core.List.{List, []}
+use mathlib.Core.Path.{_≡_}
+use Prim.Native.Nat.{ℕ, _≤_, _<_}
+use mathlib.Core.Bool.{true, not}
+use mathlib.Core.List.{List}
 use native.Mathlib.Omega.{arith}
-use lib.ListN.{length, take, length-append, length-take}
+use lib.ListN.{length, length-take}
 use lib.Dec.{ltb}
 use lib.Seq.{getD-drop}
 use borrow.Author.Tests.{not-false}
@@ -24,11 +24,10 @@ use Rattle.steps.proofs.Decisions.{order-fits, order-short}
 use Rattle.command.specs.Orders.{Deed, performed, commanded}
 use Rattle.command.proofs.Lengths.{said-short}
 use Rattle.reader.specs.declared.Fault.{Fault}
-use Rattle.reader.specs.declared.Refusal.{Refusal}
-use Rattle.reader.specs.Messages.{Request, PowerOn, PowerOff, SlotStatus, Transfer, Unsupported, typeByte, apdu, bSlot, bSeq, requestOf, answerType, faultOf, isClear, bError, cardState, bStatus, byte9, header, answer}
-use Rattle.reader.specs.Exchange.{Outcome, reset, deed, idle, answered, replied, reply, turnedDown, exchange, insertedAs, insertion}
+use Rattle.reader.specs.Messages.{Request, PowerOn, PowerOff, SlotStatus, Transfer, Unsupported, typeByte, apdu, requestOf, faultOf, isClear, header, answer}
+use Rattle.reader.specs.Exchange.{Outcome, reset, deed, idle, answered, replied, reply, exchange, insertedAs, insertion}
 use Rattle.raw.specs.declared.Reading.{Reading}
-use Rattle.raw.specs.Raw.{RawOutcome, rawDown, rawly, readExchange, slotOf, rawExchange, rawInsertion, rawRemoval}
+use Rattle.raw.specs.Raw.{RawOutcome, readExchange, slotOf, rawExchange, rawInsertion, rawRemoval}
 
 reset-short : (f : Facts) (image : List ℕ) → length (reset f image) ≤ 257
 unfolding reset

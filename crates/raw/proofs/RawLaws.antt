@@ -2,16 +2,16 @@
 use mathlib.Core.Path.{_≡_, refl, sym, ap, _∙_, subst⁻¹}
 use Prim.Native.Nat.{ℕ, _+_, _≤_, _<_}
 use mathlib.Core.Bool.{Bool, true, false, not, false≢true}
-use mathlib.Core.List.{List, []}
+use mathlib.Core.List.{List, _++_, append-nil}
 use native.Mathlib.Numerals.{add-one}
 use native.Mathlib.Omega.{arith}
 use lib.ListN.{length, drop, drop-of-length-le}
 use lib.Dec.{ltb}
 use lib.Seq.{drop-cons}
-use borrow.Author.Tests.{eqb-true, not-false, ltb-false, eq-eqb}
-use Rattle.words.specs.Choice.{_⇒_⁏_, _and_, _is_, _isnt_}
+use borrow.Author.Tests.{eqb-true, not-false, ltb-false}
+use Rattle.words.specs.Choice.{_and_, _is_, _isnt_}
 use Rattle.words.specs.Bytes.{byte, over}
-use Rattle.words.proofs.Choices.{either, first}
+use Rattle.words.proofs.Choices.{either}
 use Rattle.words.proofs.Lists.{over-none}
 use Rattle.card.specs.declared.Known.{Known}
 use Rattle.card.specs.Kinds.{chipOf}
@@ -23,7 +23,7 @@ use Rattle.reader.specs.declared.Verdict.{Verdict}
 use Rattle.reader.specs.declared.Reply.{Reply}
 use Rattle.reader.specs.Exchange.{Outcome, number, numberOf, answerLength, Gives}
 use Rattle.raw.specs.declared.Reading.{Reading}
-use Rattle.raw.specs.Raw.{rawOf, blank, slotFrom, slotWith, cardWith, slotOf, RawOutcome, rawDown, keeping, rawly, RawGives}
+use Rattle.raw.specs.Raw.{blank, slotFrom, slotWith, cardWith, slotOf, RawOutcome, rawDown, keeping, rawly, RawGives}
 
 -- ---- blank bytes: one more, and none left
 pub blank-step : (l : List ℕ) (i : ℕ) → i < length l → blank (drop i l) ≡ (byte l i is 0 and blank (drop (i + 1) l))
@@ -118,4 +118,4 @@ raw-kept r {o} {reply} g e h = record {
 -- 32 bytes over 32 bytes leave none of the old
 pub over-whole : (b d : List ℕ) → length d ≤ length b → over b d ≡ b
 unfolding over
-over-whole b d h = ap (λ (t : List ℕ). mathlib.Core.List._++_ b t) (drop-of-length-le d {i = length b} h) ∙ mathlib.Core.List.append-nil b
+over-whole b d h = ap (λ (t : List ℕ). b ++ t) (drop-of-length-le d {i = length b} h) ∙ append-nil b

@@ -4,12 +4,11 @@ use mathlib.Core.Path.{_≡_, refl, sym, ap, _∙_}
 use Prim.Native.Nat.{ℕ, zero, suc, _≤_}
 use mathlib.Core.Bool.{Bool, true, false, not, false≢true}
 use mathlib.Core.List.{List, [], _∷_}
-use native.Mathlib.Nat.{not-suc-le-zero}
 use native.Mathlib.Omega.{arith}
-use lib.ListN.{length, drop, replicate}
+use lib.ListN.{length, replicate}
 use lib.Dec.{ltb}
 use borrow.Author.Tests.{eqb-true, not-false}
-use Rattle.words.specs.Choice.{_⇒_⁏_, _and_, _is_, _isnt_}
+use Rattle.words.specs.Choice.{_⇒_⁏_, _and_, _is_}
 use Rattle.words.specs.Bytes.{byte}
 use Rattle.words.proofs.Choices.{either, and-true}
 use Rattle.card.specs.declared.Chip.{Chip}
@@ -21,8 +20,8 @@ use Rattle.slot.specs.Slots.{imageIsCard, sound}
 use Rattle.reader.specs.declared.Refusal.{Refusal}
 use Rattle.reader.specs.Exchange.{Outcome, numberOf, exchange}
 use Rattle.raw.specs.declared.Reading.{Reading}
-use Rattle.raw.specs.Raw.{kindOf, flagOf, rawOf, blank, slotFrom, slotWith, cardWith, slotOf, RawOutcome, brokenAs, readExchange, rawExchange}
-use Rattle.raw.proofs.RawLaws.{Laid, found-with, broken-found, unknown-found, number-not}
+use Rattle.raw.specs.Raw.{kindOf, flagOf, rawOf, blank, slotWith, cardWith, slotOf, RawOutcome, brokenAs, readExchange, rawExchange}
+use Rattle.raw.proofs.RawLaws.{Laid, found-with, unknown-found}
 
 -- ---- what is written reads back as the same slot
 -- the five bytes with 27 of 00h behind them

@@ -90,7 +90,7 @@ readExchange (Reading.Found s) r image m room = rawly r (exchange s image m room
 readExchange (Reading.Broken h) r image m room = rawDown (brokenAs h image) r image
 readExchange Reading.Unknown r image m room = rawDown Refusal.Image r image
 
--- "The tests stay in 01's order 1, 2, 3, 4", room being the length of the answer buffer
+-- "A message is tested 1, 2, 3, 4", room being the length of the answer buffer
 unfoldable pub rawExchange : List ℕ → List ℕ → List ℕ → ℕ → RawOutcome
 rawExchange r image m room =
     ltb room 271 ⇒ rawDown Refusal.Buffer r image

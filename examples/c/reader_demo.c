@@ -1,0 +1,58 @@
+/* A card in the reader, from C: an SLE4442 is put in, powered and selected, and gets a wrong code and the right one.
+ * examples/c/build builds and runs it. */
+#include "card_reader.h"
+
+/* Declared here, so that a compiler without C's headers will do. */
+int printf(const char *format, ...);
+
+/* All that the reader knows: the slot and the card's memory. */
+static uint8_t record[CARD_READER_RECORD];
+static uint8_t image[264];
+
+static void show(const char *what, const uint8_t *bytes, int32_t length)
+{
+    int32_t i;
+    printf("%-12s", what);
+    if (length < 0)
+        printf(" turned down, %d", (int)-length);
+    for (i = 0; i < length; i++)
+        printf(" %02x", bytes[i]);
+    printf("\n");
+}
+
+static void send(const char *what, const uint8_t *message, size_t length)
+{
+    uint8_t answer[CARD_READER_ROOM];
+    int32_t n = card_reader_message(record, sizeof record, image, sizeof image, message, length, answer, sizeof answer);
+    show(what, answer, n);
+}
+
+int main(void)
+{
+    /* type, dwLength, bSlot, bSeq, three more bytes; then the pseudo-APDU */
+    static const uint8_t power_on[] = {0x62, 0, 0, 0, 0, 0, 1, 0, 0, 0};
+    static const uint8_t select[] = {0x6F, 6, 0, 0, 0, 0, 2, 0, 0, 0, 0xFF, 0xA4, 0, 0, 1, 0x06};
+    static const uint8_t wrong[] = {0x6F, 8, 0, 0, 0, 0, 3, 0, 0, 0, 0xFF, 0x20, 0, 0, 3, 0x01, 0x02, 0x03};
+    static const uint8_t right[] = {0x6F, 8, 0, 0, 0, 0, 4, 0, 0, 0, 0xFF, 0x20, 0, 0, 3, 0x11, 0x22, 0x33};
+    static const uint8_t start[] = {0xA2, 0x13, 0x10, 0x91};
+    size_t i;
+
+    for (i = 0; i < sizeof image; i++)
+        image[i] = i < sizeof start ? start[i] : 0xFF;
+    image[260] = 0x07;
+    image[261] = 0x11;
+    image[262] = 0x22;
+    image[263] = 0x33;
+
+    printf("remove       %d\n", (int)card_reader_remove(record, sizeof record));
+    send("no card", power_on, sizeof power_on);
+    printf("insert       %d\n", (int)card_reader_insert(record, sizeof record, CARD_READER_SLE4442, image, sizeof image));
+    printf("insert again %d\n", (int)card_reader_insert(record, sizeof record, CARD_READER_SLE4442, image, sizeof image));
+    send("power on", power_on, sizeof power_on);
+    send("select", select, sizeof select);
+    send("wrong code", wrong, sizeof wrong);
+    send("right code", right, sizeof right);
+    send("cut message", right, 9);
+    show("record", record, 5);
+    return 0;
+}

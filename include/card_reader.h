@@ -1,0 +1,90 @@
+/* The card reader for C: one host message, one card put in, one card taken out.
+ *
+ * Link libraw.a, which `rt staticlib raw` writes to target/staticlib/. The library allocates nothing, keeps nothing
+ * between calls and has no globals: all it knows stands in the record and the image that the caller lends it. The one
+ * C function it calls is memset.
+ * Any bytes may come as record, image and message; every call has its one result, which is proved.
+ *
+ * Each slice is a pointer and a length in bytes. What the caller has to see to, as for any C function:
+ *   - so many bytes are there, and may be written where the pointer is not to const; of length 0 nothing is touched;
+ *   - the slices of one call do not overlap, and nothing else changes them while the call runs.
+ *
+ * The record, CARD_READER_RECORD bytes:
+ *   0   the kind of the card that is in, 0 for none
+ *   1   active: 0 or 1
+ *   2   selected type, 0 for none
+ *   3   reader page: 8, 16, 32, 64 or 128
+ *   4   open: 0 or 1
+ *   5.. the rest, all 00h
+ * A record starts as what card_reader_remove makes of it, whatever it held before.
+ *
+ * A call that is turned down returns one of the CARD_READER_E_ numbers, and record, image and answer keep every byte.
+ */
+#ifndef CARD_READER_H
+#define CARD_READER_H
+
+#include <stddef.h>
+#include <stdint.h>
+
+#ifdef __cplusplus
+extern "C" {
+#endif
+
+/* The record's length. */
+#define CARD_READER_RECORD 32
+/* The least room for an answer, and the longest answer there is. */
+#define CARD_READER_ROOM 271
+#define CARD_READER_LONGEST 267
+
+/* The kinds, with their image bytes. */
+#define CARD_READER_I2C_1K 1     /* 128 */
+#define CARD_READER_I2C_2K 2     /* 256 */
+#define CARD_READER_I2C_4K 3     /* 512 */
+#define CARD_READER_I2C_8K 4     /* 1024 */
+#define CARD_READER_I2C_16K 5    /* 2048 */
+#define CARD_READER_I2C_32K 6    /* 4096 */
+#define CARD_READER_I2C_64K 7    /* 8192 */
+#define CARD_READER_I2C_128K 8   /* 16384 */
+#define CARD_READER_I2C_256K 9   /* 32768 */
+#define CARD_READER_SLE4428 20   /* 1152: 1024 memory bytes (3FDh counter, 3FEh and 3FFh code), 128 protection bytes */
+#define CARD_READER_SLE4442 30   /* 264: 256 memory bytes, 4 protection bytes, counter, 3 code bytes */
+
+/* The answer buffer is shorter than CARD_READER_ROOM. */
+#define CARD_READER_E_BUFFER (-1)
+/* The message is shorter than 10 bytes. */
+#define CARD_READER_E_MESSAGE (-2)
+/* The kind is none of the above, or the image is not one of a card of that kind: its length, an SLE4442 counter above
+ * 07h, or an SLE4428 whose protection bit for 3FDh is 0. With no card in the slot the image is not looked at. */
+#define CARD_READER_E_IMAGE (-3)
+/* The record has another length than CARD_READER_RECORD, a byte that may only be 0 or 1 is neither, a byte of the rest
+ * is not 00h, or what it says cannot be so (a page of no reader, a type that is not the card's, and the like). */
+#define CARD_READER_E_RECORD (-4)
+/* A card is in already. */
+#define CARD_READER_E_OCCUPIED (-5)
+
+/* One host message (CCID Bulk-OUT) to the card that is in.
+ *   record   the slot; afterwards the next slot
+ *   image    the card's memory; afterwards what the card holds
+ *   message  the whole message, header and data
+ *   answer   afterwards the answer (CCID Bulk-IN) from its first byte on; bytes past the answer keep their values
+ * Returns the answer's length, 10 to CARD_READER_LONGEST, or, tested in this order, -1, -2, -3 or -4. */
+int32_t card_reader_message(uint8_t *record, size_t record_length, uint8_t *image, size_t image_length,
+                            const uint8_t *message, size_t message_length, uint8_t *answer, size_t answer_length);
+
+/* A card is put in: the record becomes that of the card, inactive, with no type, page 8, closed.
+ *   record   the slot; afterwards the slot with the card
+ *   kind     one of the kinds above
+ *   image    the card's memory, which is only looked at
+ * Returns 0, or, tested in this order, -4 (the record's length alone), -5 or -3. */
+int32_t card_reader_insert(uint8_t *record, size_t record_length, uint8_t kind, const uint8_t *image, size_t image_length);
+
+/* The card is taken out: any record of the right length becomes the empty one.
+ *   record   the slot; afterwards the empty slot
+ * Returns 0, or -4 where the record has another length. */
+int32_t card_reader_remove(uint8_t *record, size_t record_length);
+
+#ifdef __cplusplus
+}
+#endif
+
+#endif
