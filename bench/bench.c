@@ -1,0 +1,426 @@
+// Measures the library beside the C reader: the same messages to both, in turn, in one process.
+//
+//   bench time ROUNDS    the time of a call, and the ratio as the median, least and most of the rounds
+//   bench count ROUNDS   calls between marks on standard error, for an emulator that logs instructions there
+//   bench stack          the deepest use of the stack of each function, by painting
+//
+// A row is a state and a message. Before a call the record and one byte of the image are put back, so
+// that every call does the same. The same loop around a function that does nothing is taken off.
+#include "card_reader.h"
+#include "plain.h"
+
+#include <stdio.h>
+#include <string.h>
+#include <time.h>
+
+long write(int file, const void *bytes, size_t count);
+
+typedef int32_t message_call(uint8_t *, size_t, uint8_t *, size_t, const uint8_t *, size_t, uint8_t *, size_t);
+typedef int32_t insert_call(uint8_t *, size_t, uint8_t, const uint8_t *, size_t);
+typedef int32_t remove_call(uint8_t *, size_t);
+
+enum { I2C_SMALL = 1, I2C_256 = 2, I2C_LARGE = 9, SLE4428 = 20, SLE4442 = 30 };
+enum { ROWS = 96, LARGEST = 32768, CALLS = 4, TIMED_CALLS = 4000, MOST_ROUNDS = 999 };
+
+struct row {
+    const char *name;
+    uint8_t kind, poke;
+    uint8_t record[32], message[300];
+    size_t record_len, image_len, message_len, answer_len, poke_at;
+};
+
+static struct row rows[ROWS];
+static size_t row_count;
+static uint8_t record[32], image[LARGEST], answer[271];
+
+// ---- the cards
+
+static size_t image_len_of(uint8_t kind) {
+    return kind == SLE4442 ? 264 : kind == SLE4428 ? 1152 : (size_t)64 << kind;
+}
+
+static const char *card_of(uint8_t kind) {
+    switch (kind) {
+    case 0: return "none";
+    case I2C_SMALL: return "I2C 128 bytes";
+    case I2C_256: return "I2C 256 bytes";
+    case I2C_LARGE: return "I2C 32 KiB";
+    case SLE4428: return "SLE4428";
+    default: return "SLE4442";
+    }
+}
+
+static size_t counter_of(uint8_t kind) { return kind == SLE4442 ? 260 : 0x3fd; }
+
+static uint8_t memory_byte(size_t at) { return (uint8_t)(at * 7 + 1); }
+
+// A card with nothing protected, a full counter and the code 11 22 33.
+static void make_card(uint8_t kind) {
+    for (size_t i = 0; i < LARGEST; i++)
+        image[i] = memory_byte(i);
+    if (kind == SLE4442) {
+        memset(image + 256, 0xff, 4);
+        memcpy(image + 260, "\x07\x11\x22\x33", 4);
+    }
+    if (kind == SLE4428) {
+        memcpy(image + 0x3fd, "\xff\x11\x22", 3);
+        memset(image + 1024, 0xff, 128);
+    }
+}
+
+// ---- the rows
+
+// A row on a card whose type is selected, with a message of the type and 10 + n bytes.
+static struct row *add(const char *name, uint8_t kind, uint8_t type, size_t n) {
+    struct row *row = &rows[row_count++];
+    int code = kind == SLE4428 || kind == SLE4442;
+    row->name = name;
+    row->kind = kind;
+    row->record_len = 32;
+    row->image_len = image_len_of(kind);
+    row->message_len = 10 + n;
+    row->answer_len = sizeof answer;
+    row->record[0] = kind;
+    row->record[1] = 1;
+    row->record[2] = (uint8_t)(kind == SLE4428 ? 5 : kind == SLE4442 ? 6 : kind < 6 ? 1 : 2);
+    row->record[3] = 8;
+    row->message[0] = type;
+    row->message[1] = (uint8_t)n;
+    row->message[2] = (uint8_t)(n >> 8);
+    row->message[6] = 7;
+    row->poke_at = code ? counter_of(kind) : 0;
+    row->poke = (uint8_t)(kind == SLE4442 ? 0x07 : kind == SLE4428 ? 0xff : 1);
+    return row;
+}
+
+// A command; brings says how many bytes follow P3, which are those that the card has there.
+static struct row *add_command(const char *name, uint8_t kind, uint8_t ins, size_t at, size_t p3, size_t brings) {
+    struct row *row = add(name, kind, 0x6f, 5 + brings);
+    uint8_t *apdu = row->message + 10;
+    apdu[0] = 0xff;
+    apdu[1] = ins;
+    apdu[2] = (uint8_t)(at >> 8);
+    apdu[3] = (uint8_t)at;
+    apdu[4] = (uint8_t)p3;
+    for (size_t i = 0; i < brings; i++)
+        apdu[5 + i] = memory_byte(at + i);
+    return row;
+}
+
+static struct row *open_card(struct row *row) {
+    row->record[4] = 1;
+    return row;
+}
+
+static void add_read(const char *name, uint8_t kind, size_t at, size_t p3) { add_command(name, kind, 0xb0, at, p3, 0); }
+
+static struct row *add_write(const char *name, uint8_t kind, size_t at, size_t p3) {
+    struct row *row = add_command(name, kind, 0xd0, at, p3, p3);
+    return kind >= SLE4428 ? open_card(row) : row;
+}
+
+static void add_code(const char *name, uint8_t kind, const char *code, uint8_t counter) {
+    size_t length = kind == SLE4442 ? 3 : 2;
+    struct row *row = add_command(name, kind, 0x20, 0, length, length);
+    memcpy(row->message + 15, code, length);
+    row->poke = counter;
+}
+
+static void make_rows(void) {
+    struct row *row;
+    uint8_t ends[] = { I2C_SMALL, I2C_LARGE }, codes[] = { SLE4442, SLE4428 };
+
+    add_read("read 1 byte", I2C_SMALL, 0x20, 1);
+    add_read("read 1 byte", I2C_LARGE, 0x4120, 1);
+    add_read("read 16 bytes", I2C_SMALL, 0x20, 16);
+    add_read("read 16 bytes", I2C_LARGE, 0x4120, 16);
+    add_read("read 255 bytes", I2C_256, 0, 255);
+    add_read("read 255 bytes", I2C_LARGE, 0x4100, 255);
+    add_read("read 255 bytes", SLE4442, 0, 255);
+    add_read("read 255 bytes, closed", SLE4428, 0x301, 255);
+
+    add_write("write 1 byte", I2C_SMALL, 0x20, 1);
+    add_write("write 1 byte", I2C_LARGE, 0x4120, 1);
+    add_write("write 16 bytes", I2C_SMALL, 0x20, 16);
+    add_write("write 16 bytes", I2C_LARGE, 0x4120, 16);
+    add_write("write 255 bytes", I2C_256, 0, 255);
+    add_write("write 255 bytes", I2C_LARGE, 0x4100, 255);
+    add_write("write 255 bytes, reader page 128", I2C_256, 0, 255)->record[3] = 128;
+    add_write("write 255 bytes, reader page 128", I2C_LARGE, 0x4100, 255)->record[3] = 128;
+    add_write("write 16 bytes", SLE4442, 0x10, 16);
+    add_write("write 16 bytes", SLE4428, 0x10, 16);
+    add_write("write 255 bytes", SLE4442, 0, 255);
+    add_write("write 255 bytes", SLE4428, 3, 255);
+
+    for (size_t i = 0; i < 2; i++) {
+        uint8_t full = (uint8_t)(codes[i] == SLE4442 ? 0x07 : 0xff);
+        add_code("present a wrong code", codes[i], "\x11\x23\x33", full);
+        add_code("present the right code", codes[i], "\x11\x22\x33", full);
+        add_code("present with no tries left", codes[i], "\x11\x22\x33", 0);
+    }
+
+    add_command("protection bits of 32 bytes", SLE4442, 0xb2, 0, 4, 0);
+    add_command("protection bits of 32 bytes", SLE4428, 0xb2, 0x40, 4, 0);
+    add_command("protection bits of 256 bytes", SLE4428, 0xb2, 0x40, 32, 0);
+    add_command("protection bits of 256 bytes from 43h", SLE4428, 0xb2, 0x43, 32, 0);
+    open_card(add_command("protect 32 bytes", SLE4442, 0xd1, 0, 32, 32));
+    open_card(add_command("protect 32 bytes", SLE4428, 0xd1, 0x40, 32, 32));
+
+    for (size_t i = 0; i < 2; i++) {
+        add_command("refused, 1: short buffer", ends[i], 0xb0, 0, 16, 0)->answer_len--;
+        add_command("refused, 2: short message", ends[i], 0xb0, 0, 16, 0)->message_len = 9;
+        add_command("refused, 3: short image", ends[i], 0xb0, 0, 16, 0)->image_len--;
+        add_command("refused, 4: last byte of the record", ends[i], 0xb0, 0, 16, 0)->record[31] = 1;
+        add("fault: unsupported type", ends[i], 0x61, 0);
+        add_command("fault: dwLength", ends[i], 0xb0, 0, 16, 0)->message[4] = 1;
+        add_command("step 1: short command", ends[i], 0xb0, 0, 16, 0);
+        row = &rows[row_count - 1];
+        row->message_len = 14;
+        row->message[1] = 4;
+        add_command("step 5: not this card's", ends[i], 0xb1, 0, 4, 0);
+        add_command("step 7: past the memory", ends[i], 0xb0, image_len_of(ends[i]) - 15, 16, 0);
+    }
+    for (size_t i = 0; i < 2; i++) {
+        add_command("step 9: write while closed", codes[i], 0xd0, 0x10, 16, 16);
+        row = add_write("step 10: last of 16 protected", codes[i], 0x10, 16);
+        row->poke_at = (codes[i] == SLE4442 ? 256 : 1024) + 3;
+        row->poke = 0x7f;
+    }
+
+    for (size_t i = 0; i < 2; i++) {
+        add_command("select the type", codes[i], 0xa4, 0, 1, 1);
+        rows[row_count - 1].message[15] = (uint8_t)(codes[i] == SLE4442 ? 6 : 5);
+        add_command("read the counter", codes[i], 0xb1, 0, codes[i] == SLE4442 ? 4 : 3, 0);
+        add("power on", codes[i], 0x62, 0);
+    }
+    row = open_card(add_command("change the code", SLE4442, 0xd2, 1, 3, 3));
+    memcpy(row->message + 15, "\x11\x22\x33", 3);
+    for (size_t i = 0; i < 2; i++) {
+        add_command("set the reader page", ends[i], 0x01, 0, 1, 1);
+        rows[row_count - 1].message[15] = 5;
+        add("power off", ends[i], 0x63, 0);
+        add("slot status", ends[i], 0x65, 0);
+    }
+    row = add("slot status", 0, 0x65, 0);
+    row->image_len = 0;
+    memset(row->record, 0, 3);
+}
+
+// ---- calls
+
+__attribute__((always_inline)) static inline int32_t call_once(message_call *call, const struct row *row) {
+    memcpy(record, row->record, sizeof record);
+    image[row->poke_at] = row->poke;
+    return call(record, row->record_len, image, row->image_len, row->message, row->message_len, answer, row->answer_len);
+}
+
+__attribute__((noinline)) static void run(message_call *call, const struct row *row, unsigned count) {
+    for (unsigned i = 0; i < count; i++)
+        call_once(call, row);
+}
+
+__attribute__((noinline)) static int32_t nothing(uint8_t *r, size_t rl, uint8_t *i, size_t il, const uint8_t *m,
+                                                 size_t ml, uint8_t *a, size_t al) {
+    (void)r, (void)rl, (void)i, (void)il, (void)m, (void)ml, (void)a, (void)al;
+    return 0;
+}
+
+// Read anew at each use, so that the three loops differ in nothing but the call.
+static message_call *volatile library = card_reader_message, *volatile plain = plain_message, *volatile empty = nothing;
+
+// Whether both readers give the same result, record, image and answer buffer in every row.
+static int both_agree(void) {
+    static uint8_t seen_image[LARGEST];
+    uint8_t seen_record[32], seen_answer[sizeof answer];
+    for (size_t i = 0; i < row_count; i++) {
+        make_card(rows[i].kind);
+        memset(answer, 0x5a, sizeof answer);
+        int32_t result = call_once(library, &rows[i]);
+        memcpy(seen_record, record, sizeof record);
+        memcpy(seen_image, image, sizeof image);
+        memcpy(seen_answer, answer, sizeof answer);
+        make_card(rows[i].kind);
+        memset(answer, 0x5a, sizeof answer);
+        if (call_once(plain, &rows[i]) != result || memcmp(seen_record, record, sizeof record) ||
+            memcmp(seen_image, image, sizeof image) || memcmp(seen_answer, answer, sizeof answer)) {
+            dprintf(2, "bench: the readers differ: %s, %s\n", rows[i].name, card_of(rows[i].kind));
+            return 0;
+        }
+    }
+    return 1;
+}
+
+// ---- instructions
+
+// A mark has the same length and cost for every row: what it costs is in the empty loop too.
+static void mark(size_t row, char who) {
+    char text[] = "\n@ 000 x\n";
+    text[3] = (char)('0' + row / 100 % 10);
+    text[4] = (char)('0' + row / 10 % 10);
+    text[5] = (char)('0' + row % 10);
+    text[7] = who;
+    write(2, text, sizeof text - 1);
+}
+
+__attribute__((noinline)) static void marked(size_t at, char who, message_call *call) {
+    mark(at, who);
+    run(call, &rows[at], CALLS);
+}
+
+static void count(unsigned rounds) {
+    for (size_t i = 0; i < row_count; i++) {
+        const struct row *row = &rows[i];
+        printf("%03u\t%s\t%s\t%u\n", (unsigned)i, row->name, card_of(row->kind), (unsigned)CALLS);
+        make_card(row->kind);
+        for (unsigned round = 0; round < rounds; round++) {
+            marked(i, 'e', empty);
+            marked(i, 'l', library);
+            marked(i, 'c', plain);
+            marked(i, 'x', empty);
+        }
+    }
+}
+
+// ---- time
+
+static double seconds(void) {
+    struct timespec now;
+    clock_gettime(CLOCK_MONOTONIC, &now);
+    return (double)now.tv_sec + (double)now.tv_nsec * 1e-9;
+}
+
+static double timed(message_call *call, const struct row *row) {
+    double start = seconds();
+    run(call, row, TIMED_CALLS);
+    return (seconds() - start) * 1e9 / TIMED_CALLS;
+}
+
+static void sort(double *values, unsigned n) {
+    for (unsigned i = 1; i < n; i++)
+        for (unsigned k = i; k > 0 && values[k] < values[k - 1]; k--) {
+            double swapped = values[k];
+            values[k] = values[k - 1];
+            values[k - 1] = swapped;
+        }
+}
+
+// Number, row, card, nanoseconds of the library and of C, ratio: median, least, most.
+static void time_rows(unsigned rounds) {
+    static double ours[MOST_ROUNDS], theirs[MOST_ROUNDS], ratios[MOST_ROUNDS];
+    for (size_t i = 0; i < row_count; i++) {
+        const struct row *row = &rows[i];
+        make_card(row->kind);
+        timed(library, row);
+        timed(plain, row);
+        for (unsigned round = 0; round < rounds; round++) {
+            double loop = timed(empty, row), first = timed(round % 2 ? plain : library, row);
+            double second = timed(round % 2 ? library : plain, row);
+            ours[round] = (round % 2 ? second : first) - loop;
+            theirs[round] = (round % 2 ? first : second) - loop;
+            ratios[round] = ours[round] / theirs[round];
+        }
+        sort(ours, rounds);
+        sort(theirs, rounds);
+        sort(ratios, rounds);
+        printf("%03u\t%s\t%s\t%.1f\t%.1f\t%.3f\t%.3f\t%.3f\n", (unsigned)i, row->name, card_of(row->kind),
+               ours[rounds / 2], theirs[rounds / 2], ratios[rounds / 2], ratios[0], ratios[rounds - 1]);
+    }
+}
+
+// ---- stack
+
+enum { PAINTED = 8192 };
+
+static volatile uint8_t *stack_now(void) __attribute__((always_inline));
+static inline volatile uint8_t *stack_now(void) {
+    volatile uint8_t *now;
+    __asm__ volatile("mov %%rsp, %0" : "=r"(now));
+    return now;
+}
+
+// How deep below the caller's stack pointer a call wrote, its return address and the arguments that
+// are passed on the stack with it. Two patterns, since a call may write the painted byte itself.
+#define DEPTH(call)                                                                                                  \
+    do {                                                                                                             \
+        for (unsigned pattern = 0; pattern < 2; pattern++) {                                                         \
+            volatile uint8_t *top = stack_now();                                                                     \
+            for (size_t i = 1; i <= PAINTED; i++)                                                                    \
+                top[-(long)i] = (uint8_t)(i * 37 ^ pattern * 0xff);                                                  \
+            call;                                                                                                    \
+            size_t depth = PAINTED;                                                                                  \
+            while (depth > 0 && top[-(long)depth] == (uint8_t)(depth * 37 ^ pattern * 0xff))                         \
+                depth--;                                                                                             \
+            if (depth > deepest)                                                                                     \
+                deepest = depth;                                                                                     \
+        }                                                                                                            \
+        return deepest;                                                                                              \
+    } while (0)
+
+__attribute__((noinline)) static size_t message_depth(message_call *call, const struct row *row) {
+    size_t deepest = 0;
+    make_card(row->kind);
+    DEPTH(call_once(call, row));
+}
+
+__attribute__((noinline)) static size_t insert_depth(insert_call *call, uint8_t in, uint8_t kind, size_t length) {
+    size_t deepest = 0;
+    make_card(kind);
+    memset(record, 0, sizeof record);
+    record[0] = in;
+    DEPTH(call(record, sizeof record, kind, image, length));
+}
+
+__attribute__((noinline)) static size_t remove_depth(remove_call *call, size_t length) {
+    size_t deepest = 0;
+    DEPTH(call(record, length));
+}
+
+static size_t greater(size_t one, size_t other) { return one > other ? one : other; }
+
+static size_t deepest_insert(insert_call *call) {
+    size_t deepest = insert_depth(call, 1, 1, 128);
+    for (unsigned kind = 0; kind < 256; kind++) {
+        size_t length = kind < 10 || kind == SLE4428 || kind == SLE4442 ? image_len_of((uint8_t)kind) : 0;
+        deepest = greater(deepest, insert_depth(call, 0, (uint8_t)kind, length));
+        deepest = greater(deepest, insert_depth(call, 0, (uint8_t)kind, length + 1));
+    }
+    return deepest;
+}
+
+// Function, bytes of the library and of C, the library's deepest row.
+static void stack(void) {
+    size_t ours = 0, theirs = 0, where = 0;
+    for (size_t i = 0; i < row_count; i++) {
+        size_t depth = message_depth(library, &rows[i]);
+        if (depth > ours) {
+            ours = depth;
+            where = i;
+        }
+        theirs = greater(theirs, message_depth(plain, &rows[i]));
+    }
+    printf("card_reader_message\t%zu\t%zu\t%s, %s\n", ours, theirs, rows[where].name, card_of(rows[where].kind));
+    printf("card_reader_insert\t%zu\t%zu\t\n", deepest_insert(card_reader_insert), deepest_insert(plain_insert));
+    ours = greater(remove_depth(card_reader_remove, 32), remove_depth(card_reader_remove, 31));
+    theirs = greater(remove_depth(plain_remove, 32), remove_depth(plain_remove, 31));
+    printf("card_reader_remove\t%zu\t%zu\t\n", ours, theirs);
+}
+
+int main(int argc, char **argv) {
+    unsigned rounds = 0;
+    for (const char *digit = argc == 3 ? argv[2] : ""; *digit >= '0' && *digit <= '9' && rounds < 100; digit++)
+        rounds = rounds * 10 + (unsigned)(*digit - '0');
+    make_rows();
+    if (!both_agree())
+        return 1;
+    if (argc == 3 && rounds > 0 && !strcmp(argv[1], "time"))
+        time_rows(rounds);
+    else if (argc == 3 && rounds > 0 && !strcmp(argv[1], "count"))
+        count(rounds);
+    else if (argc == 2 && !strcmp(argv[1], "stack"))
+        stack();
+    else {
+        dprintf(2, "usage: bench time ROUNDS | count ROUNDS | stack\n");
+        return 2;
+    }
+    return 0;
+}
