@@ -30,7 +30,7 @@ digit-requires : tie.Need-digit-requires Inv-loop μ-loop
 digit-requires c κs = omega (arith, c .before .shared-slice-known2 .given (c .before .before .before .loop .i))
 
 digit-requires-2 : tie.Need-digit-requires-2 Inv-loop μ-loop
-digit-requires-2 c κs = search needs
+digit-requires-2 c κs = omega (arith, c .before .before .shared-slice-known2 .given (c .before .before .before .before .loop .i))
 
 put-two-requires : tie.Need-put-two-requires Inv-loop μ-loop
 put-two-requires c κs = search needs

@@ -29,10 +29,10 @@ shown-requires : tie.Need-shown-requires
 shown-requires c κs = search needs
 
 sub-put-rest : tie.Need-sub-put-rest
-sub-put-rest c = omega (arith, length-set (c .before .before .before .put-word .last .1 .0) (c .before .before .before .put-word .result) (48 + c .before .before .before .before .before .before .before .args .number), c .before .before .before .put-word .kept .1 .0, c .before .before .before .put-word .ensures .2)
+sub-put-rest c = simp length-set (omega (arith, c .before .before .before .put-word .kept .1 .0, c .before .before .before .put-word .ensures .2))
 
 part-put-rest-start : tie.Need-part-put-rest-start
-part-put-rest-start c = omega (arith, length-set (c .before .before .before .put-word .last .1 .0) (c .before .before .before .put-word .result) (48 + c .before .before .before .before .before .before .before .args .number), c .before .before .before .put-word .kept .1 .0, c .before .before .before .put-word .ensures .2)
+part-put-rest-start c = simp length-set (omega (arith, c .before .before .before .put-word .kept .1 .0, c .before .before .before .put-word .ensures .2))
 
 part-put-rest-end : tie.Need-part-put-rest-end
 part-put-rest-end c = search needs
