@@ -4,7 +4,7 @@ use mathlib.Core.List.{List, [], _∷_}
 use mathlib.Core.Bool.{Bool, true, false}
 use mathlib.Core.Logic.{_⊎_, inl, inr, _≢_}
 use Prim.Native.Nat.{ℕ, zero, suc, _+_, _-_, _*_, _/_, _%_, _^_, _≤_, _<_}
-use native.Mathlib.Nat.{pow-suc, mul-comm, mul-assoc, div-div-eq-div-mul, div-mul-le-self, mul-le-mul-right, le-trans}
+use native.Mathlib.Nat.{pow-suc, mul-comm, mul-assoc, div-div-eq-div-mul}
 use native.Mathlib.Omega.{arith}
 use lib.Dec.{eqb, ltb}
 use lib.ListN.{length, set}
@@ -14,15 +14,12 @@ use Rattle.words.specs.Choice.{_⇒_⁏_, _is_}
 use Rattle.words.specs.Bytes.{byte}
 use Rattle.words.proofs.Choices.{either, alike}
 use Rattle.card.specs.Protection.{bitOf, cleared, protectionBit, isProtected, protecting, protectEqual}
+use Rattle.card.proofs.ProtectionLaws.{bit-counts}
 
 -- ---- one byte
 -- bit j + 1 of a number is bit j of its half
 bit-half : (b j : ℕ) → bitOf b (suc j) ≡ bitOf (b / 2) j
 bit-half b j = ap (λ (n : ℕ). n % 2) (ap (λ (n : ℕ). b / n) (pow-suc 2 j ∙ mul-comm (2 ^ j) 2) ∙ sym (div-div-eq-div-mul b 2 (2 ^ j)))
-
--- what a bit counts is in the number
-bit-counts : (b i : ℕ) → bitOf b i * 2 ^ i ≤ b
-bit-counts b i = le-trans (mul-le-mul-right {m = bitOf b i} {n = b / 2 ^ i} (2 ^ i) (omega arith)) (div-mul-le-self b (2 ^ i))
 
 -- a number with bit i + 1 cleared: half of it is its half with bit i cleared, and its last bit stays
 clear-half : (b i : ℕ) → cleared b (suc i) ≡ 2 * cleared (b / 2) i + b % 2

@@ -3,14 +3,14 @@ use mathlib.Core.Path.{_≡_, refl, sym, ap, _∙_}
 use mathlib.Core.List.{List, [], _∷_}
 use mathlib.Core.Bool.{Bool, true, false}
 use mathlib.Core.Logic.{_⊎_, inl, inr, _≢_}
-use Prim.Native.Nat.{ℕ, zero, suc, _+_, _-_, _*_, _/_, _%_, _^_, _≤_, _<_}
-use native.Mathlib.Nat.{div-mul-le-self, mul-le-mul-right}
+use Prim.Native.Nat.{ℕ, zero, suc, _+_, _-_, _*_, _/_, _%_, _^_, _≤_, _<_, min, max}
+use native.Mathlib.Nat.{div-mul-le-self, mul-le-mul-right, le-trans}
 use native.Mathlib.Numerals.{add-one}
 use native.Mathlib.Omega.{arith}
-use lib.Dec.{eqb, ltb}
-use lib.ListN.{length, drop, set, length-set}
+use lib.Dec.{leb, ltb}
+use lib.ListN.{length, drop, length-set}
 use lib.Seq.{drop-cons, drop-length, getD-set-other}
-use borrow.Author.Tests.{eq-eqb, ne-eqb, lt-ltb, le-ltb}
+use borrow.Author.Tests.{eq-eqb, ne-eqb, lt-ltb, le-ltb, leb-true, leb-false, ltb-true, ltb-false}
 use Rattle.words.specs.Choice.{_⇒_⁏_, _is_}
 use Rattle.words.specs.Bytes.{byte}
 use Rattle.words.proofs.Choices.{first, rest, either}
@@ -19,16 +19,30 @@ use Rattle.card.specs.declared.Place.{Place}
 use Rattle.card.specs.declared.Place.the-variants.{At, Nowhere}
 
 -- ---- one bit
-pub bit-within : (b i : ℕ) → (bitOf b i ≡ 0 → ⊥) → 2 ^ i ≤ b
-bit-within b i h = omega (arith, div-mul-le-self b (2 ^ i), mul-le-mul-right {m = 1} {n = b / 2 ^ i} (2 ^ i) (omega arith))
+-- what a bit counts is in the number
+pub bit-counts : (b i : ℕ) → bitOf b i * 2 ^ i ≤ b
+bit-counts b i = le-trans (mul-le-mul-right {m = bitOf b i} {n = b / 2 ^ i} (2 ^ i) (omega arith)) (div-mul-le-self b (2 ^ i))
 
-pub cleared-off : (b i : ℕ) → bitOf b i ≡ 0 → cleared b i ≡ b
-unfolding cleared
-cleared-off b i e = rw e (omega arith)
+-- every bit of FFh is 1
+full-bit : (i : ℕ) → i < 8 → bitOf 255 i ≡ 1
+full-bit zero h = refl
+full-bit (suc zero) h = refl
+full-bit (suc (suc zero)) h = refl
+full-bit (suc (suc (suc zero))) h = refl
+full-bit (suc (suc (suc (suc zero)))) h = refl
+full-bit (suc (suc (suc (suc (suc zero))))) h = refl
+full-bit (suc (suc (suc (suc (suc (suc zero)))))) h = refl
+full-bit (suc (suc (suc (suc (suc (suc (suc zero))))))) h = refl
+full-bit (suc (suc (suc (suc (suc (suc (suc (suc i)))))))) h = absurd (omega arith)
 
-pub cleared-on : (b i : ℕ) → (bitOf b i ≡ 0 → ⊥) → cleared b i ≡ b - 2 ^ i
-unfolding cleared
-cleared-on b i h = let e : bitOf b i ≡ 1 = omega arith in rw e (omega arith)
+-- the first of two places that is one
+abbrev pub firstOf : Place → Place → Place
+firstOf (At k) r = At k
+firstOf Nowhere r = r
+
+first-alone : (r : Place) → firstOf r Nowhere ≡ r
+first-alone (At k) = refl
+first-alone Nowhere = refl
 
 module _ (bits covered : ℕ) where
   pub bit-covered : (image : List ℕ) (k : ℕ) → k < covered → protectionBit bits covered image k ≡ bitOf (byte image (bits + k / 8)) (k % 8)
@@ -67,6 +81,94 @@ module _ (bits covered : ℕ) where
     pub first-later : k < to → isProtected bits covered image k ≡ false → firstProtected bits covered image k (to - k) ≡ firstProtected bits covered image (k + 1) (to - (k + 1))
     unfolding firstProtected _⇒_⁏_
     first-later h e = rw (suc-left h, e)
+
+  -- bytes past those covered are passed over
+  pub first-beyond : (image : List ℕ) (k n : ℕ) → covered ≤ k → firstProtected bits covered image k n ≡ Nowhere
+  unfolding firstProtected _⇒_⁏_
+  first-beyond image k zero h = refl
+  first-beyond image k (suc n) h = rw (protected-beyond image k h) (first-beyond image (k + 1) n (omega arith))
+
+  -- a search of m bytes and n more: that of the n where the m have none
+  first-split : (image : List ℕ) (k m n : ℕ) → firstProtected bits covered image k (m + n) ≡ firstOf (firstProtected bits covered image k m) (firstProtected bits covered image (k + m) n)
+  unfolding firstProtected _⇒_⁏_
+  first-split image k zero n =
+      let e : 0 + n ≡ n = omega arith in
+      let f : k + 0 ≡ k = omega arith in
+      rw (e, f)
+  first-split image k (suc m) n =
+      let e : suc m + n ≡ suc (m + n) = omega arith in
+      let f : k + 1 + m ≡ k + suc m = omega arith in
+      rw (e) (go (isProtected bits covered image k) _ _ _ (first-split image (k + 1) m n ∙ ap (λ (j : ℕ). firstOf (firstProtected bits covered image (k + 1) m) (firstProtected bits covered image j n)) f))
+    where
+      go : (b : Bool) (x y z : Place) → x ≡ firstOf y z → (b ⇒ At k ⁏ x) ≡ firstOf (b ⇒ At k ⁏ y) z
+      go true x y z e = refl
+      go false x y z e = e
+
+  -- a search up to `to` stops at m and goes on from there
+  pub first-from : (image : List ℕ) (k m to : ℕ) → (k ≤ m) ⊎ (to ≤ m) → m ≤ to
+      → firstProtected bits covered image k (to - k) ≡ firstOf (firstProtected bits covered image k (m - k)) (firstProtected bits covered image m (to - m))
+  first-from image k m to (inl h) l =
+      let e : to - k ≡ m - k + (to - m) = omega arith in
+      let f : k + (m - k) ≡ m = omega arith in
+      ap (firstProtected bits covered image k) e
+      ∙ first-split image k (m - k) (to - m)
+      ∙ ap (λ (j : ℕ). firstOf (firstProtected bits covered image k (m - k)) (firstProtected bits covered image j (to - m))) f
+  first-from image k m to (inr h) l =
+      let e : to ≡ m = omega arith in
+      ap (λ (j : ℕ). firstProtected bits covered image k (j - k)) e
+      ∙ sym (ap (firstOf (firstProtected bits covered image k (m - k))) (first-none image m to h) ∙ first-alone _)
+
+  -- it goes no further than the bytes covered
+  pub first-covered : (image : List ℕ) (k n : ℕ) → firstProtected bits covered image k n ≡ firstProtected bits covered image k (min covered (k + n) - k)
+  first-covered image k n = go (ltb covered (k + n)) refl
+    where
+      go : (b : Bool) → ltb covered (k + n) ≡ b → firstProtected bits covered image k n ≡ firstProtected bits covered image k (min covered (k + n) - k)
+      go true e =
+          let m : min covered (k + n) ≡ covered = omega (arith, ltb-true covered (k + n) e) in
+          let l : k + n - k ≡ n = omega arith in
+          ap (firstProtected bits covered image k) (sym l)
+          ∙ first-from image k (max k covered) (k + n) (inl (omega arith)) (omega (arith, ltb-true covered (k + n) e))
+          ∙ ap (firstOf (firstProtected bits covered image k (max k covered - k))) (first-beyond image (max k covered) (k + n - max k covered) (omega arith))
+          ∙ first-alone _
+          ∙ (let q : max k covered - k ≡ min covered (k + n) - k = omega (arith, m) in ap (firstProtected bits covered image k) q)
+      go false e = let q : n ≡ min covered (k + n) - k = omega (arith, ltb-false covered (k + n) e) in ap (firstProtected bits covered image k) q
+
+  -- a search in two: up to the next whole protection byte, or to the end, and from there on
+  pub first-parts : (image : List ℕ) (k n to m : ℕ) → to ≡ min covered (k + n) → m ≡ min ((k + 7) / 8 * 8) to
+      → firstProtected bits covered image k n ≡ firstOf (firstProtected bits covered image k (m - k)) (firstProtected bits covered image m (to - m))
+  first-parts image k n to m e f =
+      first-covered image k n
+      ∙ ap (λ (j : ℕ). firstProtected bits covered image k (j - k)) (sym e)
+      ∙ first-from image k m to (side (leb k m) refl) (omega arith)
+    where
+      side : (b : Bool) → leb k m ≡ b → (k ≤ m) ⊎ (to ≤ m)
+      side true d = inl (leb-true k m d)
+      side false d = inr (omega (arith, leb-false k m d))
+
+  -- a protection byte that is FFh protects none of its eight
+  first-free : (image : List ℕ) (q k n : ℕ) → 8 * q ≤ k → k + n ≤ 8 * q + 8 → byte image (bits + q) ≡ 255 → firstProtected bits covered image k n ≡ Nowhere
+  unfolding firstProtected _⇒_⁏_
+  first-free image q k zero h l e = refl
+  first-free image q k (suc n) h l e = rw (free) (first-free image q (k + 1) n (omega arith) (omega arith) e)
+    where
+      bit : bitOf (byte image (bits + k / 8)) (k % 8) ≡ 1
+      bit =
+          let d : k / 8 ≡ q = omega arith in
+          ap (λ (j : ℕ). bitOf (byte image (bits + j)) (k % 8)) d ∙ ap (λ (b : ℕ). bitOf b (k % 8)) e ∙ full-bit (k % 8) (omega arith)
+
+      free : isProtected bits covered image k ≡ false
+      free = go (ltb k covered) refl
+        where
+          go : (b : Bool) → ltb k covered ≡ b → isProtected bits covered image k ≡ false
+          go true d = protected-covered image k (ltb-true _ _ d) ∙ ap (λ (b : ℕ). b is 0) bit
+          go false d = protected-beyond image k (ltb-false _ _ d)
+
+  pub first-skip : (image : List ℕ) (k to : ℕ) → k % 8 ≡ 0 → k + 8 ≤ to → byte image (bits + k / 8) ≡ 255
+      → firstProtected bits covered image k (to - k) ≡ firstProtected bits covered image (k + 8) (to - (k + 8))
+  first-skip image k to w h e =
+      let n : k + 8 - k ≡ 8 = omega arith in
+      first-from image k (k + 8) to (inl (omega arith)) h
+      ∙ ap (λ (r : Place). firstOf r (firstProtected bits covered image (k + 8) (to - (k + 8)))) (ap (firstProtected bits covered image k) n ∙ first-free image (k / 8) k 8 (omega arith) (omega arith) e)
 
   -- ---- bytes protected
   pub length-protecting : (image : List ℕ) (k : ℕ) → length (protecting bits covered image k) ≡ length image

@@ -2,8 +2,9 @@
 // Inner functions. What they mean is written in specs/: Kinds, Counters, Protection, Images.
 
 use words::byte_at;
+use words::least;
 ghost use mathlib.Core.Path.{_≡_};
-ghost use Prim.Native.Nat.{ℕ, _+_, _*_, _<_};
+ghost use Prim.Native.Nat.{ℕ, _+_, _-_, _*_, _%_, _≤_, _<_};
 ghost use lib.ListN.{length};
 ghost use Rattle.card.specs.Kinds.{facts, chipOf};
 ghost use Rattle.card.specs.Counters.{tries, spent};
@@ -305,12 +306,15 @@ impl Chip {
     }
 
     // Whether an image is a card of this chip: its length is the chip's, its counter is at most full, and the counter's own
-    // protection bit is not 0.
+    // protection bit is not 0. A card with no code has neither.
     pub fn is_card(self, image: &[u8]) -> bool
         ensures { λ r. ⌜ r ≡ isCard (facts self) (now (image .entry)) ⌝ }
     {
         if image.len() != self.size() {
             return false;
+        }
+        if !self.coded() {
+            return true;
         }
         let at = self.counter();
         if self.full() < byte_at(image, at) {
@@ -342,10 +346,7 @@ pub fn clear(b: u8, i: usize) -> u8
     requires { ⌜ i < 8 ⌝ }
     ensures { λ r. ⌜ r ≡ cleared b i ⌝ }
 {
-    if (b >> i) % 2 == 0 {
-        return b;
-    }
-    b - (1u8 << i)
+    b - (((b >> i) % 2) << i)
 }
 
 // Whether byte k is protected.
@@ -361,12 +362,11 @@ pub fn protected(image: &[u8], bits: usize, covered: usize, k: usize) -> bool
     (b >> i) % 2 == 0
 }
 
-// The first protected one of the n bytes from `from` on.
-pub fn first_protected(image: &[u8], bits: usize, covered: usize, from: usize, n: usize) -> Place
-    requires { ⌜ (bits + covered < 65536) × (from + n < 65536 * 65536) ⌝ }
-    ensures { λ r. ⌜ r ≡ firstProtected bits covered (now (image .entry)) from n ⌝ }
+// The first protected one of the bytes from `from` up to `to`, bit by bit.
+fn search(image: &[u8], bits: usize, covered: usize, from: usize, to: usize) -> Place
+    requires { ⌜ (bits + covered < 65536) × (to < 65536 * 65536) ⌝ }
+    ensures { λ r. ⌜ r ≡ firstProtected bits covered (now (image .entry)) from (to - from) ⌝ }
 {
-    let to = from + n;
     let mut k = from;
     loop {
         if to <= k {
@@ -376,5 +376,40 @@ pub fn first_protected(image: &[u8], bits: usize, covered: usize, from: usize, n
             break Place::At(k);
         }
         k += 1;
+    }
+}
+
+// How far from `from` on protection bytes are FFh: none of their bytes is protected.
+fn skip(image: &[u8], bits: usize, covered: usize, from: usize, to: usize) -> usize
+    requires { ⌜ (bits + covered < 65536) × (to ≤ covered) × (from ≤ to) × (from < to → from % 8 ≡ 0) ⌝ }
+    ensures { λ r. ⌜ firstProtected bits covered (now (image .entry)) from (to - from) ≡ firstProtected bits covered (now (image .entry)) r (to - r) ⌝ }
+{
+    let mut k = from;
+    loop {
+        if to < k + 8 {
+            break k;
+        }
+        if byte_at(image, bits + k / 8) != 0xFF {
+            break k;
+        }
+        k += 8;
+    }
+}
+
+// The first protected one of the n bytes from `from` on: bit by bit to the next whole protection byte, by whole ones, and bit by bit to
+// the end.
+pub fn first_protected(image: &[u8], bits: usize, covered: usize, from: usize, n: usize) -> Place
+    requires { ⌜ (bits + covered < 65536) × (from + n < 65536 * 65536) ⌝ }
+    ensures { λ r. ⌜ r ≡ firstProtected bits covered (now (image .entry)) from n ⌝ }
+{
+    let to = least(covered, from + n);
+    let start = least((from + 7) / 8 * 8, to);
+    let first = search(image, bits, covered, from, start);
+    match first {
+        Place::At(k) => Place::At(k),
+        Place::Nowhere => {
+            let rest = skip(image, bits, covered, start, to);
+            search(image, bits, covered, rest, to)
+        }
     }
 }

@@ -15,7 +15,7 @@ ghost use lib.ListN.{length};
 ghost use Rattle.words.specs.Bytes.{over};
 ghost use Rattle.card.specs.Kinds.{facts};
 ghost use Rattle.slot.specs.Slots.{imageIsCard, sound, removed};
-ghost use Rattle.reader.specs.Messages.{PowerOn, PowerOff, SlotStatus, Transfer, Unsupported, bSlot, bSeq, faultOf, isClear, bError, cardState, bStatus, byte9, header};
+ghost use Rattle.reader.specs.Messages.{PowerOn, PowerOff, SlotStatus, Transfer, Unsupported, typeByte, requestOf, bSlot, bSeq, faultOf, isClear, bError, cardState, bStatus, byte9, header};
 ghost use Rattle.reader.specs.Exchange.{reset, reply, exchange, insertion, Gives, Sealed};
 
 // What is wrong with a message, first fault first; Clear where nothing is.
@@ -319,6 +319,21 @@ fn unsupported(slot: Slot, msg: &[u8], answer: &mut [u8]) -> Reply
     seal(0x81, Fault::Unknown, 0, slot, msg, answer)
 }
 
+// The handler of the type byte. It stands apart from the tests before it so that the compiler takes all of it into the call.
+fn handle(slot: Slot, image: &mut [u8], msg: &[u8], answer: &mut [u8]) -> Reply
+    requires { ⌜ (10 ≤ length (now msg)) × (271 ≤ length (now answer)) × (imageIsCard (slot .holds) (now image) ≡ true) × (0 < slot .page) ⌝ }
+    ensures { λ r. ⌜ Gives (reply (requestOf (typeByte (now (msg .entry)))) slot (now (image .entry)) (now (msg .entry))) r (now (image .exit)) (now (answer .entry)) (now (answer .exit)) ⌝ }
+{
+    let kind = msg[0];
+    match kind {
+        0x62 => power_on(slot, image, msg, answer),
+        0x63 => power_off(slot, msg, answer),
+        0x65 => slot_status(slot, msg, answer),
+        0x6F => transfer(slot, image, msg, answer),
+        0x00..=0x61 | 0x64 | 0x66..=0x6E | 0x70..=0xFF => unsupported(slot, msg, answer),
+    }
+}
+
 // ---- offered
 
 fn turn_down(refusal: Refusal, slot: Slot) -> Reply
@@ -330,7 +345,7 @@ fn turn_down(refusal: Refusal, slot: Slot) -> Reply
     }
 }
 
-// One host message: the four tests in order, then a handler by the type byte.
+// One host message: the four tests in order, then the handler.
 pub fn message(slot: Slot, image: &mut [u8], msg: &[u8], answer: &mut [u8]) -> Reply
     ensures { λ r. ⌜ Gives (exchange slot (now (image .entry)) (now (msg .entry)) (length (now (answer .entry)))) r (now (image .exit)) (now (answer .entry)) (now (answer .exit)) ⌝ }
 {
@@ -346,14 +361,7 @@ pub fn message(slot: Slot, image: &mut [u8], msg: &[u8], answer: &mut [u8]) -> R
     if !slot.is_sound(image) {
         return turn_down(Refusal::Record, slot);
     }
-    let kind = msg[0];
-    match kind {
-        0x62 => power_on(slot, image, msg, answer),
-        0x63 => power_off(slot, msg, answer),
-        0x65 => slot_status(slot, msg, answer),
-        0x6F => transfer(slot, image, msg, answer),
-        0x00..=0x61 | 0x64 | 0x66..=0x6E | 0x70..=0xFF => unsupported(slot, msg, answer),
-    }
+    handle(slot, image, msg, answer)
 }
 
 // A card is put in: turned down where one is in, or where the image is no card of that kind.

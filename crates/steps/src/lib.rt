@@ -44,7 +44,7 @@ pub enum Order {
 }
 
 // A code card that is closed.
-fn locked(chip: Chip, slot: Slot) -> bool
+pub fn locked(chip: Chip, slot: Slot) -> bool
     ensures { λ r. ⌜ r ≡ (facts chip .coded and not (slot .«open»)) ⌝ }
 {
     if !chip.coded() {
@@ -189,12 +189,16 @@ fn write_place(chip: Chip, at: usize, p: usize) -> bool
     chip.counter() < at
 }
 
-// Whether a byte of the range is protected.
+// Whether a byte of the range is protected; past those covered none is.
 fn hits_protected(chip: Chip, image: &[u8], at: usize, p: usize) -> bool
     requires { ⌜ (at < 65536) × (p < 256) ⌝ }
     ensures { λ r. ⌜ r ≡ hitsProtected (facts chip) Write (now (image .entry)) at p ⌝ }
 {
-    let first = card::first_protected(image, chip.bits(), chip.covered(), at, p);
+    let covered = chip.covered();
+    if covered <= at {
+        return false;
+    }
+    let first = card::first_protected(image, chip.bits(), covered, at, p);
     match first {
         Place::At(_) => true,
         Place::Nowhere => false,

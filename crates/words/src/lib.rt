@@ -2,7 +2,7 @@
 // Each says the one result it gives; those that write into a lent buffer ask that the bytes fit.
 
 ghost use mathlib.Core.Path.{_≡_};
-ghost use Prim.Native.Nat.{ℕ, _+_, _≤_, _<_};
+ghost use Prim.Native.Nat.{ℕ, _+_, _≤_, _<_, min};
 ghost use mathlib.Core.List.{[], _∷_, _++_};
 ghost use lib.ListN.{length, set};
 ghost use Rattle.words.specs.Bytes.{byte, same, fourAt, over};
@@ -12,6 +12,13 @@ pub fn wide(b: u8) -> usize
     ensures { λ r. ⌜ (r ≡ b) × (r < 256) ⌝ }
 {
     b as usize
+}
+
+// The lesser of two.
+pub fn least(a: usize, b: usize) -> usize
+    ensures { λ r. ⌜ r ≡ min a b ⌝ }
+{
+    if a < b { a } else { b }
 }
 
 // Byte k, 0 beyond the end.

@@ -1,66 +1,76 @@
--- `first_protected` meets its contract. The loop's invariant: the answer is that of the search from here on.
+-- `first_protected` meets its contract: a search in two parts, the second of which skips.
 use borrow.Author.Needs.{needs}
 use mathlib.Core.Path.{_≡_, sym, ap, _∙_}
-use native.Mathlib.Omega.{arith}
-use Prim.Native.Nat.{_+_, _-_, _≤_}
+use Prim.Native.Nat.{_-_}
 use Rattle.card.specs.Protection.{firstProtected}
-use Rattle.card.proofs.ProtectionLaws.{first-none, first-here, first-later}
+use Rattle.card.specs.declared.Place.{Place}
+use Rattle.card.specs.declared.Place.the-variants.{At, Nowhere}
+use Rattle.card.proofs.ProtectionLaws.{firstOf, first-parts}
 use Rattle.card.proofs.first_protected.Statement.{statement}
 use Rattle.card.proofs.first_protected.Tie as tie
 
-abbrev Inv-loop : tie.InvT-loop
-Inv-loop image bits covered from n to k₀ k = (k ≤ to) × (firstProtected bits covered image «from» n ≡ firstProtected bits covered image k (to - k))
+add-least : tie.Need-add-least
+add-least c = search needs
 
-abbrev μ-loop : tie.MeasureT-loop
-μ-loop image bits covered from n to k₀ k = to - k
+least-requires : tie.Need-least-requires
+least-requires c κs = search needs
 
-add-to : tie.Need-add-to Inv-loop μ-loop
-add-to c = search needs
+add-least-2 : tie.Need-add-least-2
+add-least-2 c = search needs
 
-loop-holds : tie.Need-loop-holds Inv-loop μ-loop
-loop-holds c =
-    let a = c .before .args in
-    let e : a .from + a .n - a .from ≡ a .n = omega arith in
-    (omega arith, ap (firstProtected (a .bits) (a .covered) (a .image .now) (a .from)) (sym e))
+mul-least : tie.Need-mul-least
+mul-least c = search needs
 
-protected-requires : tie.Need-protected-requires Inv-loop μ-loop
-protected-requires c κs = search needs
+least-requires-2 : tie.Need-least-requires-2
+least-requires-2 c κs = search needs
 
-add-k : tie.Need-add-k Inv-loop μ-loop
-add-k c = search needs
+search-requires : tie.Need-search-requires
+search-requires c κs = search needs
 
-loop-less : tie.Need-loop-less Inv-loop μ-loop
-loop-less c = search needs
+enum-known-first : tie.Need-enum-known-first
+enum-known-first c = search needs
 
-loop-again : tie.Need-loop-again Inv-loop μ-loop
-loop-again c =
-    let l = c .before .before .before .loop in
-    let a = c .before .before .before .before .before .args in
-    (omega arith, l .inv .1 ∙ first-later (a .bits) (a .covered) (a .image .now) (l .k) (a .from + a .n) (omega arith) (cc))
+enum-told : tie.Need-enum-told
+enum-told c = search needs
 
-returns : tie.Need-returns Inv-loop μ-loop
+skip-requires : tie.Need-skip-requires
+skip-requires c κs = search needs
+
+search-requires-2 : tie.Need-search-requires-2
+search-requires-2 c κs = search needs
+
+returns : tie.Need-returns
 returns c =
-    let a = c .before .before .before .args in
-    let l = c .before .loop in
-    sym (l .inv .1 ∙ first-none (a .bits) (a .covered) (a .image .now) (l .k) (a .from + a .n) (omega arith))
+    let a = c .before .before .before .before .before .before .before .args in
+    let to = c .before .before .before .before .before .least .result in
+    let m = c .before .before .before .before .least2 .result in
+    let e : firstProtected (a .bits) (a .covered) (a .image .now) (a .from) (m - a .from) ≡ At _ = sym (c .before .before .before .search .ensures) ∙ c .before .first .given .1 in
+    sym (first-parts (a .bits) (a .covered) (a .image .now) (a .from) (a .n) to m (c .before .before .before .before .before .least .ensures) (c .before .before .before .before .least2 .ensures)
+    ∙ ap (λ (r : Place). firstOf r (firstProtected (a .bits) (a .covered) (a .image .now) m (to - m))) e)
 
-returns-2 : tie.Need-returns-2 Inv-loop μ-loop
+returns-2 : tie.Need-returns-2
 returns-2 c =
-    let l = c .before .before .before .loop in
-    let a = c .before .before .before .before .before .args in
-    sym (l .inv .1 ∙ first-here (a .bits) (a .covered) (a .image .now) (l .k) (a .from + a .n) (omega arith) (cc))
+    let a = c .before .before .before .before .before .before .before .before .args in
+    let to = c .before .before .before .before .before .before .least .result in
+    let m = c .before .before .before .before .before .least2 .result in
+    let e : firstProtected (a .bits) (a .covered) (a .image .now) (a .from) (m - a .from) ≡ Nowhere = sym (c .before .before .before .before .search .ensures) ∙ c .before .before .enum-told .given .1 in
+    sym (first-parts (a .bits) (a .covered) (a .image .now) (a .from) (a .n) to m (c .before .before .before .before .before .before .least .ensures) (c .before .before .before .before .before .least2 .ensures)
+    ∙ ap (λ (r : Place). firstOf r (firstProtected (a .bits) (a .covered) (a .image .now) m (to - m))) e
+    ∙ c .before .skip .ensures ∙ sym (c .search2 .ensures))
 
 pub first-protected-spec : {M : Type 1} → statement M
 first-protected-spec =
     tie.close
     (tie.spec
-    Inv-loop
-    μ-loop
-    add-to
-    loop-holds
-    protected-requires
-    add-k
-    loop-less
-    loop-again
+    add-least
+    least-requires
+    add-least-2
+    mul-least
+    least-requires-2
+    search-requires
+    enum-known-first
+    enum-told
+    skip-requires
+    search-requires-2
     returns
     returns-2)
