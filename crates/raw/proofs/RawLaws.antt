@@ -1,20 +1,19 @@
--- Laws of raw records: bytes that are blank, a record that was found, and a call that is turned down or keeps what came of it.
+-- Laws of raw records: bytes that are blank, a record that was found, a call that is turned down or keeps what came of it, and what is written.
 use mathlib.Core.Path.{_≡_, refl, sym, ap, _∙_, subst⁻¹}
-use Prim.Native.Nat.{ℕ, _+_, _≤_, _<_}
+use Prim.Native.Nat.{ℕ, zero, suc, _+_, _-_, _*_, _≤_, _<_}
 use mathlib.Core.Bool.{Bool, true, false, not, false≢true}
-use mathlib.Core.List.{List, _++_, append-nil}
+use mathlib.Core.List.{List, [], _∷_, _++_, append-nil}
+use native.Mathlib.Nat.{mul-suc}
 use native.Mathlib.Numerals.{add-one}
 use native.Mathlib.Omega.{arith}
-use lib.ListN.{length, drop, drop-of-length-le}
+use lib.ListN.{length, drop, set, replicate, length-drop, length-replicate, replicate-append-replicate, drop-of-length-le}
 use lib.Dec.{ltb}
-use lib.Seq.{drop-cons}
-use borrow.Author.Tests.{eqb-true, not-false, ltb-false}
+use lib.Seq.{drop-cons, sets, sets-eq}
+use borrow.Author.Tests.{eq-eqb, ne-eqb, eqb-true, not-false, ltb-false}
 use Rattle.words.specs.Choice.{_and_, _is_, _isnt_}
-use Rattle.words.specs.Bytes.{byte, over}
-use Rattle.words.proofs.Choices.{either}
-use Rattle.words.proofs.Lists.{over-none}
-use Rattle.card.specs.declared.Known.{Known}
-use Rattle.card.specs.Kinds.{chipOf}
+use Rattle.words.specs.Bytes.{byte, fourAt, eightAt}
+use Rattle.words.proofs.Choices.{either, and-fails, and-holds}
+use Rattle.words.proofs.Lists.{over-none, sets-snoc}
 use Rattle.slot.specs.declared.Slot.{Slot}
 use Rattle.slot.specs.declared.Holds.{Holds}
 use Rattle.slot.specs.Slots.{removed}
@@ -23,16 +22,68 @@ use Rattle.reader.specs.declared.Verdict.{Verdict}
 use Rattle.reader.specs.declared.Reply.{Reply}
 use Rattle.reader.specs.Exchange.{Outcome, number, numberOf, answerLength, Gives}
 use Rattle.raw.specs.declared.Reading.{Reading}
-use Rattle.raw.specs.Raw.{blank, slotFrom, slotWith, cardWith, slotOf, RawOutcome, rawDown, keeping, rawly, RawGives}
+use Rattle.raw.specs.Raw.{kindOf, stateOf, rawOf, blank, slotFrom, slotWith, RawOutcome, rawDown, keeping, rawly, RawGives}
 
--- ---- blank bytes: one more, and none left
-pub blank-step : (l : List ℕ) (i : ℕ) → i < length l → blank (drop i l) ≡ (byte l i is 0 and blank (drop (i + 1) l))
+-- ---- blank bytes
+-- one more
+blank-step : (l : List ℕ) (i j : ℕ) → j ≡ i + 1 → i < length l → blank (drop i l) ≡ (byte l i is 0 and blank (drop j l))
 unfolding blank
-blank-step l i h = rw (drop-cons l i 0 h, add-one i)
+blank-step l i j e h = rw (drop-cons l i 0 h, e, add-one i)
 
-pub blank-end : (l : List ℕ) → blank (drop (length l) l) ≡ true
-unfolding blank
-blank-end l = rw (drop-of-length-le l {i = length l} (omega arith))
+-- a sum is 0 where both its parts are
+sum-zero : (n a b : ℕ) (t : Bool) → 0 < n → (a is 0 and b is 0 and t) ≡ ((a + n * b) is 0 and t)
+unfolding _and_
+sum-zero n zero zero t h = and-holds (eq-eqb (0 + n * 0) 0 (omega arith)) refl
+sum-zero n zero (suc b) t h = sym (and-fails t (ne-eqb (suc b) 0 (λ e. omega arith))) ∙ and-fails t (ne-eqb (0 + n * suc b) 0 (λ e. omega (arith, mul-suc n b)))
+sum-zero n (suc a) b t h = sym (and-fails (b is 0 and t) (ne-eqb (suc a) 0 (λ e. omega arith))) ∙ and-fails t (ne-eqb (suc a + n * b) 0 (λ e. omega arith))
+
+-- so the number in four bytes, or in eight, is 0 where every byte is
+blank-four : (l : List ℕ) (k : ℕ) → k + 4 ≤ length l → blank (drop k l) ≡ (fourAt l k is 0 and blank (drop (k + 4) l))
+unfolding fourAt
+blank-four l k h =
+    let a = byte l k in
+    let b = byte l (k + 1) in
+    let c = byte l (k + 2) in
+    let d = byte l (k + 3) in
+    let t = blank (drop (k + 4) l) in
+    blank-step l k (k + 1) refl (omega arith)
+    ∙ ap (λ (x : Bool). a is 0 and x) (blank-step l (k + 1) (k + 2) (omega arith) (omega arith))
+    ∙ ap (λ (x : Bool). a is 0 and b is 0 and x) (blank-step l (k + 2) (k + 3) (omega arith) (omega arith))
+    ∙ ap (λ (x : Bool). a is 0 and b is 0 and c is 0 and x) (blank-step l (k + 3) (k + 4) (omega arith) (omega arith))
+    ∙ sum-zero 256 a b (c is 0 and d is 0 and t) (omega arith)
+    ∙ sum-zero 65536 (a + 256 * b) c (d is 0 and t) (omega arith)
+    ∙ sum-zero 16777216 (a + 256 * b + 65536 * c) d t (omega arith)
+
+blank-eight : (l : List ℕ) (k : ℕ) → k + 8 ≤ length l → blank (drop k l) ≡ (eightAt l k is 0 and blank (drop (k + 8) l))
+unfolding eightAt
+blank-eight l k h =
+    let e : k + 4 + 4 ≡ k + 8 = omega arith in
+    blank-four l k (omega arith)
+    ∙ ap (λ (x : Bool). fourAt l k is 0 and x) (blank-four l (k + 4) (omega arith) ∙ ap (λ (j : ℕ). fourAt l (k + 4) is 0 and blank (drop j l)) e)
+    ∙ sum-zero 4294967296 (fourAt l k) (fourAt l (k + 4)) (blank (drop (k + 8) l)) (omega arith)
+
+-- a number of eight bytes that is 0 is passed, one that is not says that they are not blank
+pub eight-zero : (l : List ℕ) (k : ℕ) → k + 8 ≤ length l → eightAt l k ≡ 0 → blank (drop (k + 8) l) ≡ blank (drop k l)
+eight-zero l k h e = and-holds (eq-eqb (eightAt l k) 0 e) refl ∙ sym (blank-eight l k h)
+
+pub eight-more : (l : List ℕ) (k : ℕ) → k + 8 ≤ length l → (eightAt l k ≡ 0 → ⊥) → false ≡ blank (drop k l)
+eight-more l k h e = and-fails (blank (drop (k + 8) l)) (ne-eqb (eightAt l k) 0 e) ∙ sym (blank-eight l k h)
+
+and-end : (b : Bool) → b and true ≡ b
+unfolding _and_
+and-end true = refl
+and-end false = refl
+
+-- the last four of 32 bytes, the first of which was seen to be 00h
+pub blank-last : (l : List ℕ) → length l ≡ 32 → eightAt l 21 ≡ 0 → fourAt l 28 is 0 ≡ blank (drop 29 l)
+unfolding blank eightAt fourAt
+blank-last l e z =
+    let p : byte l 28 ≡ 0 = omega arith in
+    sym (and-end (fourAt l 28 is 0))
+    ∙ sym (ap (λ (x : List ℕ). fourAt l 28 is 0 and blank x) (drop-of-length-le l {i = 32} (omega arith)))
+    ∙ sym (blank-four l 28 (omega arith))
+    ∙ blank-step l 28 29 refl (omega arith)
+    ∙ sym (and-holds (eq-eqb (byte l 28) 0 p) refl)
 
 -- ---- a record that was found
 -- what a reading says
@@ -46,7 +97,7 @@ slotIn (Reading.Found s) = s
 slotIn (Reading.Broken h) = removed
 slotIn Reading.Unknown = removed
 
-pub broken-found : {A : Type 0} {h : Holds} {s : Slot} → Reading.Broken h ≡ Reading.Found s → A
+broken-found : {A : Type 0} {h : Holds} {s : Slot} → Reading.Broken h ≡ Reading.Found s → A
 broken-found e = absurd (false≢true (ap isFound e))
 
 pub unknown-found : {A : Type 0} {s : Slot} → Reading.Unknown ≡ Reading.Found s → A
@@ -76,18 +127,6 @@ found-with h r s =
       said = ap slotIn e;
     }))))
 
-pub found-card : (k : Known) (r : List ℕ) (s : Slot) → cardWith k r ≡ Reading.Found s → length r ≡ 32
-unfolding cardWith
-found-card (Known.Is chip) r s e = found-with (Holds.Card chip) r s e .long
-found-card Known.Unknown r s e = unknown-found e
-
-pub found-long : (r : List ℕ) (s : Slot) → slotOf r ≡ Reading.Found s → length r ≡ 32
-unfolding slotOf
-found-long r s =
-    either (λ (x : Reading). x ≡ Reading.Found s → length r ≡ 32) (byte r 0 is 0)
-    (λ _ e. found-with Holds.Empty r s e .long)
-    (λ _ e. found-card (chipOf (byte r 0)) r s e)
-
 -- ---- what a call gives
 -- no refusal has number 0
 pub number-not : (f : Refusal) → numberOf f is 0 ≡ false
@@ -115,7 +154,39 @@ raw-kept r {o} {reply} g e h = record {
   buffer = g .buffer;
 }
 
--- 32 bytes over 32 bytes leave none of the old
-pub over-whole : (b d : List ℕ) → length d ≤ length b → over b d ≡ b
-unfolding over
-over-whole b d h = ap (λ (t : List ℕ). b ++ t) (drop-of-length-le d {i = length b} h) ∙ append-nil b
+-- ---- what is written
+-- kind, bytes 1 to 4 and the rest, stored one behind the other, are the record
+pub record-written : (r : List ℕ) (s : Slot) (k : ℕ) → length r ≡ 32 → k ≡ kindOf (s .holds) → sets (sets (set r 0 k) 1 (stateOf s)) 5 (replicate 27 0) ≡ rawOf s
+unfolding rawOf
+record-written r s k e h =
+    let w : ℕ → List ℕ = λ x. x ∷ stateOf s ++ replicate 27 0 in
+    sets-eq (w k) r 0 (omega arith)
+    ∙ ap (λ (t : List ℕ). w k ++ t) (drop-of-length-le r {i = 32} (omega arith))
+    ∙ append-nil (w k)
+    ∙ ap w h
+
+-- 27 bytes of rest make 32
+pub rest-long : (r : List ℕ) → drop 5 r ≡ replicate 27 0 → length r ≡ 32
+rest-long r e =
+    let p : length (drop 5 r) ≡ 27 = ap length e in
+    omega (arith, p, length-drop 5 r)
+
+-- bytes 1 to 4 make it the record of a slot, where the kind is the slot's already and the rest 00h
+pub state-written : (r : List ℕ) (s : Slot) → byte r 0 ≡ kindOf (s .holds) → drop 5 r ≡ replicate 27 0 → sets r 1 (stateOf s) ≡ rawOf s
+unfolding rawOf
+state-written [] s k e = absurd (omega (arith, rest-long [] e))
+state-written (a ∷ r) s k e =
+    sets-eq (stateOf s) (a ∷ r) 1 (omega (arith, rest-long (a ∷ r) e))
+    ∙ ap (λ (t : List ℕ). a ∷ stateOf s ++ t) e
+    ∙ ap (λ (x : ℕ). x ∷ stateOf s ++ replicate 27 0) k
+
+-- a loop that makes the rest 00h: one turn
+pub rest-more : (r : List ℕ) (i : ℕ) → 5 ≤ i → set (sets r 5 (replicate (i - 5) 0)) i 0 ≡ sets r 5 (replicate (i + 1 - 5) 0)
+rest-more r i h =
+    let z : List ℕ = replicate (i - 5) 0 in
+    let p : 5 + length z ≡ i = omega (arith, length-replicate {A = ℕ} (i - 5) 0) in
+    let q : i - 5 + 1 ≡ i + 1 - 5 = omega arith in
+    ap (λ (k : ℕ). set (sets r 5 z) k 0) (sym p)
+    ∙ sym (sets-snoc r 5 z 0)
+    ∙ ap (sets r 5) (replicate-append-replicate {A = ℕ} (i - 5) 1 0)
+    ∙ ap (λ (n : ℕ). sets r 5 (replicate n 0)) q

@@ -5,7 +5,7 @@ use Prim.Native.Nat.{ℕ, zero, suc, _≤_}
 use mathlib.Core.Bool.{Bool, true, false, not, false≢true}
 use mathlib.Core.List.{List, [], _∷_}
 use native.Mathlib.Omega.{arith}
-use lib.ListN.{length, replicate}
+use lib.ListN.{length, drop, replicate}
 use lib.Dec.{ltb}
 use borrow.Author.Tests.{eqb-true, not-false}
 use Rattle.words.specs.Choice.{_⇒_⁏_, _and_, _is_}
@@ -19,6 +19,7 @@ use Rattle.slot.specs.declared.Holds.{Holds}
 use Rattle.slot.specs.Slots.{imageIsCard, sound}
 use Rattle.reader.specs.declared.Refusal.{Refusal}
 use Rattle.reader.specs.Exchange.{Outcome, numberOf, exchange}
+use Rattle.promise.proofs.Kept.{exchange-holds}
 use Rattle.raw.specs.declared.Reading.{Reading}
 use Rattle.raw.specs.Raw.{kindOf, flagOf, rawOf, blank, slotWith, cardWith, slotOf, RawOutcome, brokenAs, readExchange, rawExchange}
 use Rattle.raw.proofs.RawLaws.{Laid, found-with, unknown-found}
@@ -123,6 +124,15 @@ found-raw r s =
     either (λ (x : Reading). x ≡ Reading.Found s → r ≡ rawOf s) (byte r 0 is 0)
     (λ z e. laid-raw Holds.Empty r s (sym (eqb-true (byte r 0) 0 z)) (found-with Holds.Empty r s e))
     (λ _ e. card-raw (chipOf (byte r 0)) r s refl e)
+
+-- ---- a message leaves the kind and the rest as they were read
+pub message-leaves : (r : List ℕ) (s t : Slot) (image m : List ℕ) (room : ℕ) → slotOf r ≡ Reading.Found s → t ≡ exchange s image m room .slot
+    → (byte r 0 ≡ kindOf (t .holds)) × (drop 5 r ≡ replicate 27 0)
+unfolding rawOf
+message-leaves r s t image m room e h =
+    let p : r ≡ rawOf s = found-raw r s e in
+    let q : t .holds ≡ s .holds = ap (λ (x : Slot). x .holds) h ∙ exchange-holds s image m room in
+    (ap (λ (l : List ℕ). byte l 0) p ∙ ap kindOf (sym q), ap (drop 5) p)
 
 -- ---- whatever is read is sound or turned down
 pub record Accepted (r image : List ℕ) : Type 0 where

@@ -31,6 +31,10 @@ abbrev pub flagOf : Bool → ℕ
 flagOf true = 1
 flagOf false = 0
 
+-- what of a slot a message may change: "active, selected type, reader page, open"
+abbrev pub stateOf : Slot → List ℕ
+stateOf s = flagOf (s .active) ∷ s .selected ∷ s .page ∷ flagOf (s .«open») ∷ []
+
 -- "kind, active, selected type, reader page, open, the rest 00h"
 unfoldable pub rawOf : Slot → List ℕ
 rawOf s = kindOf (s .holds) ∷ flagOf (s .active) ∷ s .selected ∷ s .page ∷ flagOf (s .«open») ∷ replicate 27 0

@@ -10,12 +10,14 @@ use slot::Holds;
 use slot::Slot;
 use words::byte_at;
 ghost use mathlib.Core.Path.{_≡_};
-ghost use mathlib.Core.List.{List, []};
-ghost use Prim.Native.Nat.{ℕ, _≤_};
-ghost use lib.ListN.{length};
+ghost use mathlib.Core.List.{[]};
+ghost use Prim.Native.Nat.{_≤_};
+ghost use lib.ListN.{length, drop, replicate};
+ghost use lib.Seq.{sets};
 ghost use Rattle.words.specs.Choice.{_⇒_⁏_, _is_};
+ghost use Rattle.words.specs.Bytes.{byte};
 ghost use Rattle.reader.specs.Exchange.{number, numberOf, answerLength};
-ghost use Rattle.raw.specs.Raw.{kindOf, flagOf, rawOf, blank, slotWith, slotOf, brokenAs, keeping, rawExchange, rawInsertion, rawRemoval, RawGives, resultOf, Returns};
+ghost use Rattle.raw.specs.Raw.{kindOf, flagOf, stateOf, rawOf, blank, slotWith, slotOf, brokenAs, keeping, rawExchange, rawInsertion, rawRemoval, RawGives, resultOf, Returns};
 
 // What a raw record is read as.
 pub enum Reading {
@@ -44,6 +46,29 @@ fn flag_of(flag: bool) -> u8
     if flag { 1 } else { 0 }
 }
 
+// Writes what of a slot a message may change: bytes 1 to 4.
+fn write_state(slot: Slot, raw: &mut [u8])
+    requires { ⌜ 5 ≤ length (now raw) ⌝ }
+    ensures { λ _. ⌜ now (raw .exit) ≡ sets (now (raw .entry)) 1 (stateOf slot) ⌝ }
+{
+    raw[1] = flag_of(slot.active);
+    raw[2] = slot.selected;
+    raw[3] = slot.page;
+    raw[4] = flag_of(slot.open);
+}
+
+// Makes the rest, byte 5 on, 00h.
+fn clear_rest(raw: &mut [u8])
+    requires { ⌜ length (now raw) ≡ 32 ⌝ }
+    ensures { λ _. ⌜ now (raw .exit) ≡ sets (now (raw .entry)) 5 (replicate 27 0) ⌝ }
+{
+    let mut i = 5;
+    while i < raw.len() {
+        raw[i] = 0;
+        i += 1;
+    }
+}
+
 // Writes a slot into a record of 32 bytes; a slice of another length keeps every byte.
 pub fn write_record(slot: Slot, raw: &mut [u8])
     ensures { λ _. ⌜ now (raw .exit) ≡ (length (now (raw .entry)) is 32 ⇒ rawOf slot ⁏ now (raw .entry)) ⌝ }
@@ -51,30 +76,29 @@ pub fn write_record(slot: Slot, raw: &mut [u8])
     if raw.len() != 32 {
         return;
     }
-    let mut next = [0u8; 32];
     let holds = slot.holds;
-    next[0] = kind_of(holds);
-    next[1] = flag_of(slot.active);
-    next[2] = slot.selected;
-    next[3] = slot.page;
-    next[4] = flag_of(slot.open);
-    words::lay(&next, raw);
+    raw[0] = kind_of(holds);
+    write_state(slot, raw);
+    clear_rest(raw);
 }
 
 // ---- reading
 
-// Whether all bytes are 00h.
-fn is_blank(s: &[u8]) -> bool
-    ensures { λ r. ⌜ r ≡ blank (now (s .entry)) ⌝ }
+// Whether the rest, byte 5 on, is 00h: eight bytes at a time, and the last four.
+fn is_blank(raw: &[u8]) -> bool
+    requires { ⌜ length (now raw) ≡ 32 ⌝ }
+    ensures { λ r. ⌜ r ≡ blank (drop 5 (now (raw .entry))) ⌝ }
 {
-    let mut i = 0;
-    while i < s.len() {
-        if s[i] != 0 {
-            return false;
-        }
-        i += 1;
+    if words::eight_at(raw, 5) != 0 {
+        return false;
     }
-    true
+    if words::eight_at(raw, 13) != 0 {
+        return false;
+    }
+    if words::eight_at(raw, 21) != 0 {
+        return false;
+    }
+    words::four_at(raw, 28) == 0
 }
 
 // Reads the bytes behind the kind byte.
@@ -92,7 +116,7 @@ fn read_with(holds: Holds, raw: &[u8]) -> Reading
     if 1 < open {
         return Reading::Broken(holds);
     }
-    if !is_blank(&raw[5..]) {
+    if !is_blank(raw) {
         return Reading::Broken(holds);
     }
     Reading::Found(Slot {
@@ -135,6 +159,20 @@ fn keep(reply: Reply, raw: &mut [u8]) -> Verdict
     Verdict::Answered(len)
 }
 
+// The same after a message, which changes bytes 1 to 4 alone: the kind is the slot's already, and the rest 00h.
+fn keep_state(reply: Reply, raw: &mut [u8]) -> Verdict
+    requires { ⌜ (byte (now raw) 0 ≡ kindOf (reply .slot .holds)) × (drop 5 (now raw) ≡ replicate 27 0) ⌝ }
+    ensures { λ r. ⌜ (r ≡ reply .verdict) × (now (raw .exit) ≡ keeping (number (reply .verdict)) (reply .slot) (now (raw .entry))) ⌝ }
+{
+    let verdict = reply.verdict;
+    let Verdict::Answered(len) = verdict else {
+        return verdict;
+    };
+    let next = reply.slot;
+    write_state(next, raw);
+    Verdict::Answered(len)
+}
+
 // A broken record: 3 where the image is not one of its kind, else 4.
 fn broken(holds: Holds, image: &[u8]) -> Refusal
     ensures { λ r. ⌜ r ≡ brokenAs holds (now (image .entry)) ⌝ }
@@ -164,7 +202,7 @@ pub fn message(raw: &mut [u8], image: &mut [u8], msg: &[u8], answer: &mut [u8]) 
         Reading::Broken(holds) => Verdict::Refused(broken(holds, image)),
         Reading::Found(slot) => {
             let reply = reader::message(slot, image, msg, answer);
-            keep(reply, raw)
+            keep_state(reply, raw)
         }
     }
 }

@@ -12,7 +12,7 @@ use lib.Seq.{length-take-le, set-at, drop-cons, drop-drop, drop-at, append-snoc,
 use borrow.Rule.Slice.PartMut.{putMid}
 use borrow.Author.Tests.{eq-eqb, ne-eqb, eqb-true}
 use Rattle.words.specs.Choice.{_and_, _is_}
-use Rattle.words.specs.Bytes.{byte, same, over, run}
+use Rattle.words.specs.Bytes.{byte, same, fourAt, over, run}
 use Rattle.words.proofs.Choices.{and-fails, and-holds, and-true}
 
 -- ---- bytes over a buffer
@@ -146,3 +146,8 @@ first-four (a ∷ []) h = absurd (omega arith)
 first-four (a ∷ b ∷ []) h = absurd (omega arith)
 first-four (a ∷ b ∷ c ∷ []) h = absurd (omega arith)
 first-four (a ∷ b ∷ c ∷ d ∷ l) h = refl
+
+-- ---- numbers in bytes
+pub four-fits : (l : List ℕ) (k : ℕ) → ((i : ℕ) → byte l i < 256) → fourAt l k < 4294967296
+unfolding fourAt
+four-fits l k h = omega (arith, h k, h (k + 1), h (k + 2), h (k + 3))

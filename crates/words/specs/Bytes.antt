@@ -23,6 +23,10 @@ fourBytes n = n % 256 ∷ n / 256 % 256 ∷ n / 65536 % 256 ∷ n / 16777216 % 2
 unfoldable pub fourAt : List ℕ → ℕ → ℕ
 fourAt l k = byte l k + 256 * byte l (k + 1) + 65536 * byte l (k + 2) + 16777216 * byte l (k + 3)
 
+-- and eight bytes, low first
+unfoldable pub eightAt : List ℕ → ℕ → ℕ
+eightAt l k = fourAt l k + 4294967296 * fourAt l (k + 4)
+
 -- bytes laid over the front of a buffer: what is past them keeps its value
 unfoldable pub over : List ℕ → List ℕ → List ℕ
 over bytes buffer = bytes ++ drop (length bytes) buffer

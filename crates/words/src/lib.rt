@@ -5,7 +5,7 @@ ghost use mathlib.Core.Path.{_≡_};
 ghost use Prim.Native.Nat.{ℕ, _+_, _≤_, _<_, min};
 ghost use mathlib.Core.List.{[], _∷_, _++_};
 ghost use lib.ListN.{length, set};
-ghost use Rattle.words.specs.Bytes.{byte, same, fourAt, over};
+ghost use Rattle.words.specs.Bytes.{byte, same, fourAt, eightAt, over};
 
 // A byte as a wider number.
 pub fn wide(b: u8) -> usize
@@ -34,6 +34,14 @@ pub fn four_at(s: &[u8], k: usize) -> usize
     ensures { λ r. ⌜ r ≡ fourAt (now (s .entry)) k ⌝ }
 {
     wide(s[k]) + 256 * wide(s[k + 1]) + 65536 * wide(s[k + 2]) + 16777216 * wide(s[k + 3])
+}
+
+// The number in the eight bytes from k on, low first.
+pub fn eight_at(s: &[u8], k: usize) -> usize
+    requires { ⌜ k + 8 ≤ length (now s) ⌝ }
+    ensures { λ r. ⌜ r ≡ eightAt (now (s .entry)) k ⌝ }
+{
+    four_at(s, k) + 4294967296 * four_at(s, k + 4)
 }
 
 // Whether two slices of one length hold the same bytes.

@@ -1,64 +1,63 @@
--- `is_blank` meets its contract. The loop's invariant: the answer is that of what is left.
+-- `is_blank` meets its contract: each number is 0 where its bytes are 00h, and they cover the rest.
 use borrow.Author.Needs.{needs}
-use mathlib.Core.Path.{_≡_, refl, sym, ap, _∙_}
+use mathlib.Core.Path.{_≡_, sym, ap, _∙_}
 use native.Mathlib.Omega.{arith}
-use Prim.Native.Nat.{ℕ, _-_, _≤_}
-use borrow.Author.Tests.{eq-eqb, ne-eqb}
-use lib.ListN.{length, drop}
-use Rattle.words.proofs.Choices.{taken, and-fails, and-holds}
+use Prim.Native.Nat.{ℕ}
 use Rattle.words.specs.Choice.{_is_}
-use Rattle.raw.specs.Raw.{blank}
-use Rattle.raw.proofs.RawLaws.{blank-step, blank-end}
+use Rattle.words.specs.Bytes.{eightAt}
+use Rattle.raw.proofs.RawLaws.{eight-zero, eight-more, blank-last}
 use Rattle.raw.proofs.is_blank.Statement.{statement}
 use Rattle.raw.proofs.is_blank.Tie as tie
 
-abbrev Inv-loop : tie.InvT-loop
-Inv-loop s i₀ i = (i ≤ length s) × (blank s ≡ blank (drop i s))
+eight-at-requires : tie.Need-eight-at-requires
+eight-at-requires c κs = search needs
 
-abbrev μ-loop : tie.MeasureT-loop
-μ-loop s i₀ i = length s - i
-
-loop-holds : tie.Need-loop-holds Inv-loop μ-loop
-loop-holds c = search needs
-
-shared-slice-read-if1 : tie.Need-shared-slice-read-if1 Inv-loop μ-loop
-shared-slice-read-if1 c = search needs
-
-returns : tie.Need-returns Inv-loop μ-loop
+returns : tie.Need-returns
 returns c =
-    let l = c .before .before .before .loop in
-    let s = c .before .before .before .before .args .s .now in
-    and-fails _ (ne-eqb _ 0 (c .if1 .taken)) ∙ sym (l .inv .1 ∙ blank-step s (l .i) (omega arith))
+    let r = c .before .before .before .args .raw .now in
+    eight-more r 5 (omega arith) (λ e. c .if1 .taken (c .before .eight-at .ensures ∙ e))
 
-add-i : tie.Need-add-i Inv-loop μ-loop
-add-i c = search needs
+eight-at-requires-2 : tie.Need-eight-at-requires-2
+eight-at-requires-2 c κs = search needs
 
-loop-less : tie.Need-loop-less Inv-loop μ-loop
-loop-less c = search needs
-
-loop-again : tie.Need-loop-again Inv-loop μ-loop
-loop-again c =
-    let l = c .before .before .before .loop in
-    let s = c .before .before .before .before .args .s .now in
-    (omega arith, l .inv .1 ∙ blank-step s (l .i) (omega arith) ∙ sym (and-holds (eq-eqb _ 0 (c .if1 .left)) refl))
-
-returns-2 : tie.Need-returns-2 Inv-loop μ-loop
+returns-2 : tie.Need-returns-2
 returns-2 c =
-    let l = c .before .loop in
-    let s = c .before .before .args .s .now in
-    let e : l .i ≡ length s = omega arith in
-    sym (l .inv .1 ∙ ap (λ (k : ℕ). blank (drop k s)) e ∙ blank-end s)
+    let r = c .before .before .before .before .before .args .raw .now in
+    eight-more r 13 (omega arith) (λ e. c .if2 .taken (c .before .eight-at2 .ensures ∙ e))
+    ∙ eight-zero r 5 (omega arith) (sym (c .before .before .before .eight-at .ensures) ∙ c .before .before .if1 .left)
+
+eight-at-requires-3 : tie.Need-eight-at-requires-3
+eight-at-requires-3 c κs = search needs
+
+returns-3 : tie.Need-returns-3
+returns-3 c =
+    let r = c .before .before .before .before .before .before .before .args .raw .now in
+    eight-more r 21 (omega arith) (λ e. c .if3 .taken (c .before .eight-at3 .ensures ∙ e))
+    ∙ eight-zero r 13 (omega arith) (sym (c .before .before .before .eight-at2 .ensures) ∙ c .before .before .if2 .left)
+    ∙ eight-zero r 5 (omega arith) (sym (c .before .before .before .before .before .eight-at .ensures) ∙ c .before .before .before .before .if1 .left)
+
+four-at-requires : tie.Need-four-at-requires
+four-at-requires c κs = search needs
+
+returns-4 : tie.Need-returns-4
+returns-4 c =
+    let r = c .before .before .before .before .before .before .before .before .args .raw .now in
+    let z : eightAt r 21 ≡ 0 = sym (c .before .before .eight-at3 .ensures) ∙ c .before .if3 .left in
+    ap (λ (n : ℕ). n is 0) (c .four-at .ensures)
+    ∙ blank-last r (c .before .before .before .before .before .before .before .before .pre) z
+    ∙ eight-zero r 21 (omega arith) z
+    ∙ eight-zero r 13 (omega arith) (sym (c .before .before .before .before .eight-at2 .ensures) ∙ c .before .before .before .if2 .left)
+    ∙ eight-zero r 5 (omega arith) (sym (c .before .before .before .before .before .before .eight-at .ensures) ∙ c .before .before .before .before .before .if1 .left)
 
 pub is-blank-spec : {M : Type 1} → statement M
 is-blank-spec =
     tie.close
     (tie.spec
-    Inv-loop
-    μ-loop
-    loop-holds
-    shared-slice-read-if1
+    eight-at-requires
     returns
-    add-i
-    loop-less
-    loop-again
-    returns-2)
+    eight-at-requires-2
+    returns-2
+    eight-at-requires-3
+    returns-3
+    four-at-requires
+    returns-4)

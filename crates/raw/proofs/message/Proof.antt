@@ -4,9 +4,9 @@ use mathlib.Core.Path.{refl, sym, ap, _∙_}
 use borrow.Author.Tests.{lt-ltb, le-ltb}
 use lib.ListN.{length}
 use Rattle.words.proofs.Choices.{first, rest, taken}
-use Rattle.words.specs.Choice.{_and_, _is_}
 use Rattle.raw.specs.Raw.{brokenAs, readExchange, rawExchange}
-use Rattle.raw.proofs.RawLaws.{raw-is, raw-down, raw-kept, found-long}
+use Rattle.raw.proofs.RawLaws.{raw-is, raw-down, raw-kept}
+use Rattle.raw.proofs.Records.{message-leaves}
 use Rattle.reader.specs.declared.Refusal.{Refusal}
 use Rattle.reader.specs.declared.Verdict.{Verdict}
 use Rattle.raw.specs.declared.Reading.{Reading}
@@ -39,8 +39,11 @@ enum-known-reading-2 c = search needs
 message-requires : tie.Need-message-requires
 message-requires c κs = search needs
 
-keep-requires : tie.Need-keep-requires
-keep-requires c κs = found-long (c .before .before .before .before .before .before .before .before .before .before .before .before .before .before .before .before .before .before .before .args .raw .now) (c .before .before .before .before .before .before .before .before .before .reading2 .given .0 .0) (sym (c .before .before .before .before .before .before .before .before .before .before .before .read-record .ensures) ∙ c .before .before .before .before .before .before .before .before .before .reading2 .given .1)
+keep-state-requires : tie.Need-keep-state-requires
+keep-state-requires c κs =
+    let a = c .before .before .before .before .before .before .before .before .before .before .before .before .before .before .before .before .before .before .before .args in
+    message-leaves (a .raw .now) (c .before .before .before .before .before .before .before .before .before .reading2 .given .0 .0) (c .before .before .before .before .before .message .result .slot) (a .image .now) (a .msg .now) (length (a .answer .now))
+    (sym (c .before .before .before .before .before .before .before .before .before .before .before .read-record .ensures) ∙ c .before .before .before .before .before .before .before .before .before .reading2 .given .1) (c .before .before .before .before .before .message .ensures .slot)
 
 same-length : tie.Need-same-length
 same-length c = search needs
@@ -79,7 +82,7 @@ unfolding rawExchange readExchange
 returns-5 c =
     let a = c .before .before .before .before .before .before .before .before .before .before .before .before .before .before .before .before .before .before .before .before .before .before .args in
     raw-is (rest _ _ (le-ltb (length (a .answer .now)) 271 (c .before .before .before .before .before .before .before .before .before .before .before .before .before .before .before .before .before .if1 .left)) ∙ rest _ _ (le-ltb (length (a .msg .now)) 10 (c .before .before .before .before .before .before .before .before .before .before .before .before .before .before .before .before .if2 .left)) ∙ ap (λ (x : Reading). readExchange x (a .raw .now) (a .image .now) (a .msg .now) (length (a .answer .now))) (sym (c .before .before .before .before .before .before .before .before .before .before .before .before .before .before .read-record .ensures) ∙ c .before .before .before .before .before .before .before .before .before .before .before .before .reading2 .given .1))
-    (raw-kept (a .raw .now) (c .before .before .before .before .before .before .before .before .message .ensures) (c .before .before .keep .ensures .0) (c .before .before .keep .ensures .1))
+    (raw-kept (a .raw .now) (c .before .before .before .before .before .before .before .before .message .ensures) (c .before .before .keep-state .ensures .0) (c .before .before .keep-state .ensures .1))
 
 pub message-spec : {M : Type 1} → statement M
 message-spec =
@@ -93,7 +96,7 @@ message-spec =
     broken-requires
     enum-known-reading-2
     message-requires
-    keep-requires
+    keep-state-requires
     same-length
     returns-3
     same-length-2

@@ -2,12 +2,9 @@
 use borrow.Author.Needs.{needs}
 use mathlib.Core.Path.{refl, sym, ap, _∙_}
 use mathlib.Core.Bool.{not}
-use Prim.Native.Nat.{ℕ}
 use borrow.Author.Tests.{eq-eqb, ne-eqb, lt-ltb, le-ltb}
-use mathlib.Core.List.{List}
 use Rattle.words.proofs.Choices.{taken, passed}
-use Rattle.raw.specs.Raw.{blank, slotWith}
-use Rattle.words.proofs.Lists.{tail-is}
+use Rattle.raw.specs.Raw.{slotWith}
 use Rattle.raw.proofs.read_with.Statement.{statement}
 use Rattle.raw.proofs.read_with.Tie as tie
 
@@ -29,31 +26,22 @@ returns-3 : tie.Need-returns-3
 unfolding slotWith
 returns-3 c = (passed _ (ap not (eq-eqb _ 32 (c .before .before .before .before .if1 .left))) (passed _ (le-ltb 1 _ (c .before .before .if2 .left)) (taken _ (lt-ltb 1 _ (c .if3 .taken)))))
 
-sub-is-blank : tie.Need-sub-is-blank
-sub-is-blank c = search needs
-
-part-is-blank-start : tie.Need-part-is-blank-start
-part-is-blank-start c = search needs
-
-part-is-blank-end : tie.Need-part-is-blank-end
-part-is-blank-end c = search needs
-
 is-blank-requires : tie.Need-is-blank-requires
 is-blank-requires c κs = search needs
 
 returns-4 : tie.Need-returns-4
 unfolding slotWith
-returns-4 c = (passed _ (ap not (eq-eqb _ 32 (c .before .before .before .before .before .before .before .if1 .left))) (passed _ (le-ltb 1 _ (c .before .before .before .before .before .if2 .left)) (passed _ (le-ltb 1 _ (c .before .before .before .if3 .left)) (taken _ (ap (λ (l : List ℕ). not (blank l)) (sym (tail-is 5 (c .before .before .before .before .before .before .before .before .before .args .raw .now))) ∙ ap not (sym (c .before .is-blank .ensures)) ∙ c .if4 .taken)))))
+returns-4 c = (passed _ (ap not (eq-eqb _ 32 (c .before .before .before .before .before .before .if1 .left))) (passed _ (le-ltb 1 _ (c .before .before .before .before .if2 .left)) (passed _ (le-ltb 1 _ (c .before .before .if3 .left)) (taken _ (ap not (sym (c .before .is-blank .ensures)) ∙ c .if4 .taken)))))
 
 shared-slice-read-t8 : tie.Need-shared-slice-read-t8
 shared-slice-read-t8 c = search needs
 
-shared-slice-read-t16 : tie.Need-shared-slice-read-t16
-shared-slice-read-t16 c = search needs
+shared-slice-read-t13 : tie.Need-shared-slice-read-t13
+shared-slice-read-t13 c = search needs
 
 returns-5 : tie.Need-returns-5
 unfolding slotWith
-returns-5 c = (passed _ (ap not (eq-eqb _ 32 (c .before .before .before .before .before .before .before .before .before .if1 .left))) (passed _ (le-ltb 1 _ (c .before .before .before .before .before .before .before .if2 .left)) (passed _ (le-ltb 1 _ (c .before .before .before .before .before .if3 .left)) (passed _ (ap (λ (l : List ℕ). not (blank l)) (sym (tail-is 5 (c .before .before .before .before .before .before .before .before .before .before .before .args .raw .now))) ∙ ap not (sym (c .before .before .before .is-blank .ensures)) ∙ c .before .before .if4 .left) refl))))
+returns-5 c = (passed _ (ap not (eq-eqb _ 32 (c .before .before .before .before .before .before .before .before .if1 .left))) (passed _ (le-ltb 1 _ (c .before .before .before .before .before .before .if2 .left)) (passed _ (le-ltb 1 _ (c .before .before .before .before .if3 .left)) (passed _ (ap not (sym (c .before .before .before .is-blank .ensures)) ∙ c .before .before .if4 .left) refl))))
 
 pub read-with-spec : {M : Type 1} → statement M
 read-with-spec =
@@ -64,11 +52,8 @@ read-with-spec =
     returns-2
     shared-slice-read-open
     returns-3
-    sub-is-blank
-    part-is-blank-start
-    part-is-blank-end
     is-blank-requires
     returns-4
     shared-slice-read-t8
-    shared-slice-read-t16
+    shared-slice-read-t13
     returns-5)
