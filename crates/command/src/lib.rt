@@ -110,7 +110,7 @@ fn read_counter(chip: Chip, slot: Slot, image: &[u8], n: usize, out: &mut [u8]) 
 }
 
 fn read_bits(chip: Chip, slot: Slot, image: &[u8], at: usize, n: usize, out: &mut [u8]) -> Told
-    requires { ⌜ (261 ≤ length (now out)) × (at + 8 * n ≤ facts chip .covered) × (n ≤ 32) ⌝ }
+    requires { ⌜ (261 ≤ length (now out)) × (length (now image) ≡ facts chip .size) × (at + 8 * n ≤ facts chip .covered) × (n ≤ 32) ⌝ }
     ensures { λ r. ⌜ ((b : List ℕ) → Does (performed (facts chip) slot (now (image .entry)) b (Order.Bits at n)) r (now (image .entry)) (now (out .entry)) (now (out .exit))) ⌝ }
 {
     memory::read_bits(image, chip.bits(), chip.covered(), at, n, out);

@@ -1,13 +1,15 @@
 -- Laws of packed bits: eight of them are eight bits of the number that two neighbouring protection bytes make.
-use mathlib.Core.Path.{_≡_, refl, sym, ap, _∙_}
-use mathlib.Core.List.{List}
+use mathlib.Core.Path.{_≡_, refl, sym, ap, ap₂, _∙_, subst⁻¹}
+use mathlib.Core.List.{List, _∷_}
 use Prim.Native.Nat.{ℕ, zero, suc, _+_, _-_, _*_, _/_, _%_, _^_, _≤_, _<_}
 use native.Mathlib.Nat.{pow-suc, div-div-eq-div-mul, add-suc, add-zero}
 use native.Mathlib.Numerals.{add-one}
 use native.Mathlib.Omega.{arith}
+use lib.ListN.{length, take, drop}
 use lib.Pow.{mod-pow-add}
-use Rattle.words.specs.Bytes.{byte}
-use Rattle.card.specs.Protection.{bitOf, protectionBit, packed}
+use lib.Seq.{drop-cons}
+use Rattle.words.specs.Bytes.{byte, run}
+use Rattle.card.specs.Protection.{bitOf, protectionBit, packed, packedBytes}
 use Rattle.card.proofs.ProtectionLaws.{bit-covered}
 
 module _ (bits covered : ℕ) (image : List ℕ) where
@@ -46,7 +48,7 @@ high-bit j a b h =
     ap (λ (n : ℕ). (a + 256 * b) / n % 2) (lib.Pow.pow-add 2 8 j) ∙ ap (λ (n : ℕ). n % 2) (sym (div-div-eq-div-mul (a + 256 * b) 256 (2 ^ j)) ∙ ap (λ (n : ℕ). n / 2 ^ j) e)
 
 -- eight bits from byte k on, as part of the two bytes they stand in
-pub packed-eight : (bits covered : ℕ) (image : List ℕ) (k : ℕ) → k + 8 ≤ covered → byte image (bits + k / 8) < 256
+packed-eight : (bits covered : ℕ) (image : List ℕ) (k : ℕ) → k + 8 ≤ covered → byte image (bits + k / 8) < 256
     → packed bits covered image k 8 ≡ (byte image (bits + k / 8) + 256 * byte image (bits + k / 8 + 1)) / 2 ^ (k % 8) % 256
 packed-eight bits covered image k h small = packed-part bits covered image (a + 256 * b) 8 k (k % 8) each
   where
@@ -69,3 +71,40 @@ packed-eight bits covered image k h small = packed-part bits covered image (a + 
             let q : (k + i) % 8 ≡ k % 8 + i - 8 = omega arith in
             let r : 8 + (k % 8 + i - 8) ≡ k % 8 + i = omega arith in
             ap (λ (m : ℕ). bitOf (byte image m) ((k + i) % 8)) p ∙ ap (bitOf b) q ∙ sym (high-bit (k % 8 + i - 8) a b small) ∙ ap (bitOf (a + 256 * b)) r
+
+-- the same of byte j of the bits from `at` on
+pub packed-made : (bits covered : ℕ) (image : List ℕ) (at j : ℕ) → at + 8 * j + 8 ≤ covered → byte image (bits + at / 8 + j) < 256
+    → packed bits covered image (at + 8 * j) 8 ≡ (byte image (bits + at / 8 + j) + 256 * byte image (bits + at / 8 + j + 1)) / 2 ^ (at % 8) % 256
+packed-made bits covered image at j h small =
+    let p : bits + (at + 8 * j) / 8 ≡ bits + at / 8 + j = omega arith in
+    let q : (at + 8 * j) % 8 ≡ at % 8 = omega arith in
+    packed-eight bits covered image (at + 8 * j) h (subst⁻¹ (λ (m : ℕ). byte image m < 256) p small)
+    ∙ ap₂ (λ (m s : ℕ). (byte image m + 256 * byte image (m + 1)) / 2 ^ s % 256) p q
+
+-- a run that follows a list is that part of the list
+run-part : (f : ℕ → ℕ) (s k n : ℕ) (l : List ℕ) → k + n ≤ length l → ((j : ℕ) → j < n → f (s + j) ≡ byte l (k + j)) → run f s n ≡ take n (drop k l)
+unfolding run
+run-part f s k zero l h e = refl
+run-part f s k (suc n) l h e =
+    let here : f s ≡ byte l k = ap f (sym (add-zero s)) ∙ e 0 (omega arith) ∙ ap (byte l) (add-zero k) in
+    let later : run f (suc s) n ≡ take n (drop (suc k) l) =
+    run-part f (suc s) (suc k) n l (omega arith) (λ j b.
+    let p : suc s + j ≡ s + suc j = omega arith in
+    let q : k + suc j ≡ suc k + j = omega arith in
+    ap f p ∙ e (suc j) (omega arith) ∙ ap (byte l) q) in
+    ap₂ (λ (x : ℕ) (t : List ℕ). x ∷ t) here later ∙ ap (take (suc n)) (sym (drop-cons l k 0 (omega arith)))
+
+-- bits from the first of a protection byte on are the protection bytes themselves
+pub packed-whole : (bits covered : ℕ) (image : List ℕ) (at n : ℕ) → at % 8 ≡ 0 → at + 8 * n ≤ covered → bits + at / 8 + n ≤ length image → ((k : ℕ) → byte image k < 256)
+    → take n (drop (bits + at / 8) image) ≡ packedBytes bits covered image at n
+unfolding packedBytes
+packed-whole bits covered image at n z h r small = sym (run-part (λ (j : ℕ). packed bits covered image (at + 8 * j) 8) 0 (bits + at / 8) n image r each)
+  where
+    each : (j : ℕ) → j < n → packed bits covered image (at + 8 * (0 + j)) 8 ≡ byte image (bits + at / 8 + j)
+    each j b =
+        let a : ℕ = byte image (bits + at / 8 + j) in
+        let e : at + 8 * (0 + j) ≡ at + 8 * j = omega arith in
+        ap (λ (m : ℕ). packed bits covered image m 8) e
+        ∙ packed-made bits covered image at j (omega arith) (small (bits + at / 8 + j))
+        ∙ ap (λ (s : ℕ). (a + 256 * byte image (bits + at / 8 + j + 1)) / 2 ^ s % 256) z
+        ∙ omega (arith, small (bits + at / 8 + j))

@@ -2,7 +2,6 @@
 // Inner functions: each asks that its range lies in the image and that what it writes fits the lent buffer, which the ten steps have
 // tested. The rules are written in specs/: Reads, Pages, Codes, and card's Counters and Protection.
 
-use words::byte_at;
 use words::lay;
 use words::same_bytes;
 use words::wide;
@@ -11,7 +10,7 @@ ghost use Prim.Native.Nat.{ℕ, _+_, _-_, _*_, _/_, _%_, _≤_, _<_};
 ghost use lib.ListN.{length};
 ghost use lib.Seq.{sets};
 ghost use Rattle.words.specs.Bytes.{over, same};
-ghost use Rattle.card.specs.Protection.{protecting, protectEqual, packed, packedBytes};
+ghost use Rattle.card.specs.Protection.{protecting, protectEqual, packedBytes};
 ghost use Rattle.memory.specs.Reads.{bytesRead, counterRead};
 ghost use Rattle.memory.specs.Pages.{cutStart, lands, pageWrite};
 ghost use Rattle.memory.specs.Codes.{codeIn, spending, judging, presenting, accepts};
@@ -77,26 +76,24 @@ pub fn read_counter(image: &[u8], counter: usize, n: usize, out: &mut [u8])
     }
 }
 
-// Eight protection bits from byte k on, the first in bit 0.
-fn read_eight(image: &[u8], bits: usize, covered: usize, k: usize) -> u8
-    requires { ⌜ (k + 8 ≤ covered) × (bits + covered < 65536) ⌝ }
-    ensures { λ r. ⌜ r ≡ packed bits covered (now (image .entry)) k 8 ⌝ }
-{
-    let from = bits + k / 8;
-    let low = wide(byte_at(image, from));
-    let high = wide(byte_at(image, from + 1));
-    let shift = k % 8;
-    (((low + 256 * high) >> shift) % 256) as u8
-}
-
-// n bytes of protection bits from byte `at` on.
+// n bytes of protection bits from byte `at` on. Where `at` is the first byte of a protection byte they are the protection bytes
+// themselves; else each is made of two neighbours.
 pub fn read_bits(image: &[u8], bits: usize, covered: usize, at: usize, n: usize, out: &mut [u8])
-    requires { ⌜ (at + 8 * n ≤ covered) × (bits + covered < 65536) × (n ≤ length (now out)) ⌝ }
+    requires { ⌜ (at + 8 * n ≤ covered) × (bits + (covered + 7) / 8 ≤ length (now image)) × (n ≤ length (now out)) ⌝ }
     ensures { λ _. ⌜ now (out .exit) ≡ over (packedBytes bits covered (now (image .entry)) at n) (now (out .entry)) ⌝ }
 {
+    let from = bits + at / 8;
+    let shift = at % 8;
+    if shift == 0 {
+        let end = from + n;
+        lay(&image[from..end], out);
+        return;
+    }
     let mut j = 0;
     while j < n {
-        out[j] = read_eight(image, bits, covered, at + 8 * j);
+        let low = wide(image[from + j]);
+        let high = wide(image[from + j + 1]);
+        out[j] = (((low + 256 * high) >> shift) % 256) as u8;
         j += 1;
     }
 }

@@ -46,7 +46,7 @@ enum-known-order-5 : tie.Need-enum-known-order-5
 enum-known-order-5 c = search needs
 
 read-bits-requires : tie.Need-read-bits-requires
-read-bits-requires c κs = (omega arith, subst (λ (o : Order). Fit (facts (c .before .before .before .before .before .before .before .before .args .chip)) (c .before .before .before .before .before .before .before .before .args .«data» .now) o) (c .before .before .before .order5 .given .1) (c .before .before .before .before .before .before .before .before .pre .3) .0, subst (λ (o : Order). Fit (facts (c .before .before .before .before .before .before .before .before .args .chip)) (c .before .before .before .before .before .before .before .before .args .«data» .now) o) (c .before .before .before .order5 .given .1) (c .before .before .before .before .before .before .before .before .pre .3) .1)
+read-bits-requires c κs = (omega arith, c .before .before .before .before .before .before .before .before .pre .1, subst (λ (o : Order). Fit (facts (c .before .before .before .before .before .before .before .before .args .chip)) (c .before .before .before .before .before .before .before .before .args .«data» .now) o) (c .before .before .before .order5 .given .1) (c .before .before .before .before .before .before .before .before .pre .3) .0, subst (λ (o : Order). Fit (facts (c .before .before .before .before .before .before .before .before .args .chip)) (c .before .before .before .before .before .before .before .before .args .«data» .now) o) (c .before .before .before .order5 .given .1) (c .before .before .before .before .before .before .before .before .pre .3) .1)
 
 enum-known-order-6 : tie.Need-enum-known-order-6
 enum-known-order-6 c = search needs

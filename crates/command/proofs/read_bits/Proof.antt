@@ -22,7 +22,9 @@ covered-requires : tie.Need-covered-requires
 covered-requires c κs = search needs
 
 read-bits-requires : tie.Need-read-bits-requires
-read-bits-requires c κs = (omega (arith, c .before .covered .ensures), omega (arith, laid (c .before .before .before .before .before .args .chip) .span, c .before .before .bits .ensures, c .before .covered .ensures), omega arith)
+read-bits-requires c κs =
+    let a = c .before .before .before .before .before .args in
+    (omega (arith, c .before .covered .ensures), omega (arith, laid (a .chip) .guards, c .before .before .bits .ensures, c .before .covered .ensures), omega arith)
 
 put-two-requires : tie.Need-put-two-requires
 put-two-requires c κs = search needs
