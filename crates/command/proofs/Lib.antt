@@ -1,4 +1,5 @@
 pub mod Tells
+pub mod Shown
 pub mod Lengths
 pub mod ImageKept
 pub mod SlotKept

@@ -12,7 +12,9 @@ ghost use mathlib.Core.Bool.{true};
 ghost use mathlib.Core.List.{List, [], _∷_};
 ghost use Prim.Native.Nat.{ℕ, _+_, _*_, _≤_, _<_};
 ghost use lib.ListN.{length};
+ghost use Rattle.words.specs.Bytes.{over};
 ghost use Rattle.card.specs.Kinds.{Facts, facts};
+ghost use Rattle.memory.specs.Reads.{bytesRead};
 ghost use Rattle.steps.specs.Steps.{wordOf};
 ghost use Rattle.steps.specs.Fits.{Fit, Short};
 ghost use Rattle.command.specs.Orders.{Does, written, performed, commanded};
@@ -91,11 +93,22 @@ fn set_page(page: u8, slot: Slot, out: &mut [u8]) -> Told
     Told { len, slot: next }
 }
 
+// The n bytes at `at` as the host may see them: on a code card that is closed the code reads 00h.
+fn read_shown(chip: Chip, slot: Slot, image: &[u8], at: usize, n: usize, out: &mut [u8])
+    requires { ⌜ (at + n ≤ length (now image)) × (n ≤ length (now out)) ⌝ }
+    ensures { λ _. ⌜ now (out .exit) ≡ over (bytesRead (facts chip .code) (facts chip .digits) (slot .«open») (now (image .entry)) at n) (now (out .entry)) ⌝ }
+{
+    memory::read(image, at, n, out);
+    if steps::locked(chip, slot) {
+        memory::blank(at, at + n, chip.code(), chip.digits(), out);
+    }
+}
+
 fn read(chip: Chip, slot: Slot, image: &[u8], at: usize, n: usize, out: &mut [u8]) -> Told
     requires { ⌜ (261 ≤ length (now out)) × (at + n ≤ length (now image)) × (n ≤ 255) ⌝ }
     ensures { λ r. ⌜ ((b : List ℕ) → Does (performed (facts chip) slot (now (image .entry)) b (Order.Read at n)) r (now (image .entry)) (now (out .entry)) (now (out .exit))) ⌝ }
 {
-    memory::read(image, chip.code(), chip.digits(), slot.open, at, n, out);
+    read_shown(chip, slot, image, at, n, out);
     let len = put_two(out, n, 0x90, 0x00);
     Told { len, slot }
 }

@@ -12,7 +12,7 @@ use lib.Seq.{sets, length-sets, length-take-le, set-append-left, take-set-le, ta
 use borrow.Author.Tests.{le-leb, lt-leb, lt-ltb, le-ltb}
 use Rattle.words.specs.Choice.{_⇒_⁏_}
 use Rattle.words.specs.Bytes.{over}
-use Rattle.words.proofs.Choices.{either, first, rest}
+use Rattle.words.proofs.Choices.{either, first, rest, taken, passed}
 use Rattle.words.proofs.Lists.{length-run, sets-snoc}
 use Rattle.card.specs.Protection.{packedBytes}
 use Rattle.memory.specs.Reads.{visible, bytesRead, counterRead}
@@ -92,7 +92,7 @@ sets-zeros image code n =
     ∙ ap (λ (m : ℕ). set (sets image code (replicate n 0)) (code + m) 0) (length-replicate n 0)
 
 -- the code blanked in the buffer is the code blanked in the image
-pub blank-code : (at n code digits : ℕ) (image out : List ℕ) → at + n ≤ length image → n ≤ length out
+blank-code : (at n code digits : ℕ) (image out : List ℕ) → at + n ≤ length image → n ≤ length out
     → blanked at (at + n) code digits (over (take n (drop at image)) out) ≡ over (take n (drop at (sets image code (replicate digits 0)))) out
 unfolding blanked
 blank-code at n code zero image out h r = refl
@@ -100,6 +100,25 @@ blank-code at n code (suc d) image out h r =
     ap (blankOne at (at + n) (code + d)) (blank-code at n code d image out h r)
     ∙ blank-window at n (sets image code (replicate d 0)) out (omega (arith, length-sets image code (replicate d 0))) r (code + d)
     ∙ ap (λ (l : List ℕ). over (take n (drop at l)) out) (sym (sets-zeros image code d))
+
+-- ---- what is read
+-- an open card shows its bytes
+pub read-open : (code digits : ℕ) {o : Bool} (image : List ℕ) (at n : ℕ) → o ≡ true → take n (drop at image) ≡ bytesRead code digits o image at n
+unfolding bytesRead visible
+read-open code digits image at n e = ap (λ (l : List ℕ). take n (drop at l)) (taken _ e)
+
+-- so does a card that has no code
+pub read-codeless : (code : ℕ) {digits : ℕ} (o : Bool) (image : List ℕ) (at n : ℕ) → digits ≡ 0 → take n (drop at image) ≡ bytesRead code digits o image at n
+unfolding bytesRead visible
+read-codeless code o image at n e =
+    ap (λ (l : List ℕ). take n (drop at l)) (either (λ (l : List ℕ). image ≡ l) o (λ _. refl) (λ _. ap (λ (m : ℕ). sets image code (replicate m 0)) (sym e)))
+
+-- a closed one shows its bytes with the code blanked
+pub read-closed : (code digits : ℕ) {o : Bool} (image out : List ℕ) (at n : ℕ) → o ≡ false → at + n ≤ length image → n ≤ length out
+    → blanked at (at + n) code digits (over (take n (drop at image)) out) ≡ over (bytesRead code digits o image at n) out
+unfolding bytesRead visible
+read-closed code digits image out at n e h r =
+    blank-code at n code digits image out h r ∙ ap (λ (l : List ℕ). over (take n (drop at l)) out) (passed _ e refl)
 
 -- ---- how long what is read is
 pub length-bytesRead : (code digits : ℕ) (o : Bool) (image : List ℕ) (at n : ℕ) → at + n ≤ length image → length (bytesRead code digits o image at n) ≡ n

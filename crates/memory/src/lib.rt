@@ -7,14 +7,23 @@ use words::same_bytes;
 use words::wide;
 ghost use mathlib.Core.Path.{_≡_};
 ghost use Prim.Native.Nat.{ℕ, _+_, _-_, _*_, _/_, _%_, _≤_, _<_};
-ghost use lib.ListN.{length};
+ghost use lib.ListN.{length, take, drop};
 ghost use lib.Seq.{sets};
 ghost use Rattle.words.specs.Bytes.{over, same};
 ghost use Rattle.card.specs.Protection.{protecting, protectEqual, packedBytes};
-ghost use Rattle.memory.specs.Reads.{bytesRead, counterRead};
+ghost use Rattle.memory.specs.Reads.{counterRead};
 ghost use Rattle.memory.specs.Pages.{cutStart, lands, pageWrite};
 ghost use Rattle.memory.specs.Codes.{codeIn, spending, judging, presenting, accepts};
 ghost use Rattle.memory.specs.Inner.{blankOne, blanked};
+
+// The n bytes at `at`.
+pub fn read(image: &[u8], at: usize, n: usize, out: &mut [u8])
+    requires { ⌜ (at + n ≤ length (now image)) × (n ≤ length (now out)) ⌝ }
+    ensures { λ _. ⌜ now (out .exit) ≡ over (take n (drop at (now (image .entry)))) (now (out .entry)) ⌝ }
+{
+    let end = at + n;
+    lay(&image[at..end], out);
+}
 
 // Image byte k reads 00h in a buffer that holds the image from `at` up to `end`.
 fn blank_one(at: usize, end: usize, k: usize, out: &mut [u8])
@@ -30,8 +39,8 @@ fn blank_one(at: usize, end: usize, k: usize, out: &mut [u8])
     out[k - at] = 0;
 }
 
-// The n image bytes from `code` on read 00h.
-fn blank(at: usize, end: usize, code: usize, n: usize, out: &mut [u8])
+// The n image bytes from `code` on read 00h in it.
+pub fn blank(at: usize, end: usize, code: usize, n: usize, out: &mut [u8])
     requires { ⌜ (end ≤ at + length (now out)) × (code + n < 65536) ⌝ }
     ensures { λ _. ⌜ now (out .exit) ≡ blanked at end code n (now (out .entry)) ⌝ }
 {
@@ -40,27 +49,6 @@ fn blank(at: usize, end: usize, code: usize, n: usize, out: &mut [u8])
         blank_one(at, end, code + i, out);
         i += 1;
     }
-}
-
-// The n bytes at `at`; a code of so many digits reads 00h while closed.
-pub fn read(
-    image: &[u8],
-    code: usize,
-    digits: usize,
-    open: bool,
-    at: usize,
-    n: usize,
-    out: &mut [u8],
-)
-    requires { ⌜ (at + n ≤ length (now image)) × (n ≤ length (now out)) × (code + digits < 65536) ⌝ }
-    ensures { λ _. ⌜ now (out .exit) ≡ over (bytesRead code digits «open» (now (image .entry)) at n) (now (out .entry)) ⌝ }
-{
-    let end = at + n;
-    lay(&image[at..end], out);
-    if open {
-        return;
-    }
-    blank(at, end, code, digits, out);
 }
 
 // The counter, then n - 1 bytes 00h.
