@@ -133,7 +133,16 @@ fn landing(chip: usize, c: usize, a: usize) -> usize
     c - low + (low + (a - c)) % chip
 }
 
-// The data written from `at` on, byte by byte: cut at the reader page, each cut running round on the chip page.
+// The lesser of two numbers.
+fn least(a: usize, b: usize) -> usize
+    requires { ⌜ (0 < a) × (0 < b) ⌝ }
+    ensures { λ r. ⌜ (0 < r) × (r ≤ a) × (r ≤ b) ⌝ }
+{
+    if a < b { a } else { b }
+}
+
+// The data written from `at` on, run by run: cut at the reader page, each cut running round on the chip page. A run goes to the end of
+// the reader page, of the chip page or of the data, whichever comes first.
 fn write_round(image: &mut [u8], at: usize, data: &[u8], reader: usize, chip: usize)
     requires { ⌜ (at + length (now «data») ≤ length (now image)) × (0 < reader) × (0 < chip) × (chip < 65536) × (length (now image) % chip ≡ 0) × (length (now image) < 65536) ⌝ }
     ensures { λ _. ⌜ now (image .exit) ≡ pageWrite reader chip (now (image .entry)) at at (now («data» .entry)) ⌝ }
@@ -141,10 +150,13 @@ fn write_round(image: &mut [u8], at: usize, data: &[u8], reader: usize, chip: us
     let mut start = at;
     let mut i = 0;
     while i < data.len() {
-        start = cut_start(reader, start, at + i);
-        let to = landing(chip, start, at + i);
-        image[to] = data[i];
-        i += 1;
+        let a = at + i;
+        start = cut_start(reader, start, a);
+        let to = landing(chip, start, a);
+        let page = least(reader - a % reader, chip - to % chip);
+        let end = i + least(page, data.len() - i);
+        store(image, to, &data[i..end]);
+        i = end;
     }
 }
 

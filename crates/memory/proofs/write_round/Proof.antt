@@ -2,11 +2,13 @@
 use borrow.Author.Needs.{needs}
 use mathlib.Core.Path.{_≡_, refl, sym, ap, _∙_}
 use native.Mathlib.Omega.{arith}
-use Prim.Native.Nat.{ℕ, _+_, _-_, _≤_, _<_}
-use lib.ListN.{length, drop, length-set}
-use native.Mathlib.Nat.{add-zero}
-use Rattle.memory.specs.Pages.{pageWrite}
-use Rattle.memory.proofs.PageLaws.{cut-le, lands-inside, write-step, write-end}
+use Prim.Native.Nat.{ℕ, _+_, _-_, _%_, _≤_, _<_}
+use mathlib.Core.List.{List}
+use lib.ListN.{length, take, drop, length-drop}
+use lib.Seq.{sets, length-sets, length-take-le}
+use native.Mathlib.Nat.{add-zero, mod-lt}
+use Rattle.memory.specs.Pages.{cutStart, lands, pageWrite}
+use Rattle.memory.proofs.PageLaws.{cut-le, lands-inside, page-inside, write-run, write-end}
 use Rattle.memory.proofs.write_round.Statement.{statement}
 use Rattle.memory.proofs.write_round.Tie as tie
 
@@ -19,49 +21,104 @@ abbrev μ-loop : tie.MeasureT-loop
 loop-holds : tie.Need-loop-holds Inv-loop μ-loop
 loop-holds c = (omega arith, omega arith, refl, ap (λ (m : ℕ). pageWrite (c .before .before .args .reader) (c .before .before .args .chip) (c .before .before .args .image .now) (c .before .before .args .at) m (c .before .before .args .«data» .now)) (sym (add-zero (c .before .before .args .at))))
 
-add-cut-start : tie.Need-add-cut-start Inv-loop μ-loop
-add-cut-start c = search needs
+add-a : tie.Need-add-a Inv-loop μ-loop
+add-a c = search needs
 
 cut-start-requires : tie.Need-cut-start-requires Inv-loop μ-loop
 cut-start-requires c κs = search needs
 
-add-landing : tie.Need-add-landing Inv-loop μ-loop
-add-landing c = search needs
+-- the cut starts at the address or before
+cut-before : (c : tie.After-cut-start Inv-loop μ-loop) → c .cut-start .result ≤ c .before .before .before .before .before .args .at + c .before .before .loop .i
+cut-before c =
+    let a = c .before .before .before .before .before .args in
+    let l = c .before .before .loop in
+    rw (c .cut-start .ensures) (cut-le (a .reader) (l .start) (a .at + l .i) (omega arith))
 
 landing-requires : tie.Need-landing-requires Inv-loop μ-loop
-landing-requires c κs =
-    let h : c .cut-start .result ≤ c .before .before .before .before .before .args .at + c .before .before .loop .i = rw (c .cut-start .ensures) (cut-le (c .before .before .before .before .before .args .reader) (c .before .before .loop .start) (c .before .before .before .before .before .args .at + c .before .before .loop .i) (omega arith)) in
-    (omega arith, omega arith, h, omega arith)
+landing-requires c κs = (omega arith, omega arith, cut-before c, omega arith)
 
-shared-slice-read-image : tie.Need-shared-slice-read-image Inv-loop μ-loop
-shared-slice-read-image c = search needs
+-- something is left of the reader page, and of the chip page
+left-reader : (c : tie.After-landing Inv-loop μ-loop) → (c .before .before .before .before .before .before .args .at + c .before .before .before .loop .i) % c .before .before .before .before .before .before .args .reader < c .before .before .before .before .before .before .args .reader
+left-reader c = mod-lt (c .before .before .before .before .before .before .args .at + c .before .before .before .loop .i) (omega arith)
 
-inside : (c : tie.After-shared-slice-known2 Inv-loop μ-loop) → c .before .landing .result < length (c .before .before .before .before .loop .image)
-inside c =
-    let a = c .before .before .before .before .before .before .before .args in
-    let l = c .before .before .before .before .loop in
-    let h : c .before .before .cut-start .result ≤ a .at + l .i = rw (c .before .before .cut-start .ensures) (cut-le (a .reader) (l .start) (a .at + l .i) (omega arith)) in
+left-chip : (c : tie.After-landing Inv-loop μ-loop) → c .landing .result % c .before .before .before .before .before .before .args .chip < c .before .before .before .before .before .before .args .chip
+left-chip c = mod-lt (c .landing .result) (omega arith)
+
+rem-least : tie.Need-rem-least Inv-loop μ-loop
+rem-least c = search needs
+
+sub-least : tie.Need-sub-least Inv-loop μ-loop
+sub-least c = omega (arith, left-reader c)
+
+rem-least-2 : tie.Need-rem-least-2 Inv-loop μ-loop
+rem-least-2 c = search needs
+
+sub-least-2 : tie.Need-sub-least-2 Inv-loop μ-loop
+sub-least-2 c = omega (arith, left-chip c)
+
+least-requires : tie.Need-least-requires Inv-loop μ-loop
+least-requires c κs = (omega (arith, left-reader c), omega (arith, left-chip c))
+
+sub-least-3 : tie.Need-sub-least-3 Inv-loop μ-loop
+sub-least-3 c = search needs
+
+least-requires-2 : tie.Need-least-requires-2 Inv-loop μ-loop
+least-requires-2 c κs = (c .least .ensures .0, omega arith)
+
+add-end : tie.Need-add-end Inv-loop μ-loop
+add-end c = omega (arith, c .least2 .ensures .2)
+
+-- the run goes no further than the reader page, the chip page and the image
+run-reader : (c : tie.After-least2 Inv-loop μ-loop) → (c .before .before .before .before .before .before .before .before .args .at + c .before .before .before .before .before .loop .i) % c .before .before .before .before .before .before .before .before .args .reader + c .least2 .result ≤ c .before .before .before .before .before .before .before .before .args .reader
+run-reader c = omega (arith, c .least2 .ensures .1, c .before .least .ensures .1, left-reader (c .before .before))
+
+run-chip : (c : tie.After-least2 Inv-loop μ-loop) → c .before .before .landing .result % c .before .before .before .before .before .before .before .before .args .chip + c .least2 .result ≤ c .before .before .before .before .before .before .before .before .args .chip
+run-chip c = omega (arith, c .least2 .ensures .1, c .before .least .ensures .2, left-chip (c .before .before))
+
+run-inside : (c : tie.After-least2 Inv-loop μ-loop) → c .before .before .landing .result + c .least2 .result ≤ length (c .before .before .before .before .before .loop .image)
+run-inside c =
+    let a = c .before .before .before .before .before .before .before .before .args in
+    let l = c .before .before .before .before .before .loop in
     let e : length (l .image) ≡ length (a .image .now) = l .inv .2 in
-    rw (c .before .landing .ensures, e) (lands-inside (a .chip) (c .before .before .cut-start .result) (a .at + l .i) (length (a .image .now)) (omega arith) h (omega arith) (omega arith))
+    let to : c .before .before .landing .result < length (a .image .now) =
+    rw (c .before .before .landing .ensures) (lands-inside (a .chip) (c .before .before .before .cut-start .result) (a .at + l .i) (length (a .image .now)) (omega arith) (cut-before (c .before .before .before)) (omega arith) (omega arith)) in
+    rw e (page-inside (a .chip) (c .before .before .landing .result) (c .least2 .result) (length (a .image .now)) (omega arith) to (omega arith) (run-chip c))
 
-slice-write-image : tie.Need-slice-write-image Inv-loop μ-loop
-slice-write-image c = omega (arith, inside c)
+sub-store : tie.Need-sub-store Inv-loop μ-loop
+sub-store c = search needs
 
-add-i : tie.Need-add-i Inv-loop μ-loop
-add-i c = search needs
+part-store-start : tie.Need-part-store-start Inv-loop μ-loop
+part-store-start c = search needs
+
+part-store-end : tie.Need-part-store-end Inv-loop μ-loop
+part-store-end c = search needs
+
+store-requires : tie.Need-store-requires Inv-loop μ-loop
+store-requires c κs =
+    let i : ℕ = c .before .before .before .before .before .before .before .loop .i in
+    let part : List ℕ = drop i (c .before .before .before .before .before .before .before .before .before .before .args .«data» .now) in
+    let k : ℕ = i + c .before .before .least2 .result - i in
+    omega (arith, length-take-le k part (omega (arith, length-drop i (c .before .before .before .before .before .before .before .before .before .before .args .«data» .now), c .before .before .least2 .ensures .2)), run-inside (c .before .before))
 
 loop-less : tie.Need-loop-less Inv-loop μ-loop
 loop-less c = search needs
 
 loop-again : tie.Need-loop-again Inv-loop μ-loop
 loop-again c =
-    let a = c .before .before .before .before .before .before .before .args in
-    let l = c .before .before .before .before .loop in
-    let h : c .before .before .cut-start .result ≤ a .at + l .i = rw (c .before .before .cut-start .ensures) (cut-le (a .reader) (l .start) (a .at + l .i) (omega arith)) in (
-      omega arith,
-      omega (arith, h),
-      simp length-set (l .inv .2),
-      l .inv .3 ∙ write-step (a .reader) (a .chip) (l .image) (l .start) (a .at) (l .i) (a .«data» .now) (omega arith) ∙ rw (← (c .before .before .cut-start .ensures), ← (c .before .landing .ensures)),
+    let a = c .before .before .before .before .before .before .before .before .before .before .before .before .before .args in
+    let l = c .before .before .before .before .before .before .before .before .before .before .loop in
+    let d = c .before .before .before .before .before in
+    let k : ℕ = d .least2 .result in
+    let e : l .i + k - l .i ≡ k = omega arith in
+    let to : d .before .before .landing .result ≡ lands (a .chip) (cutStart (a .reader) (l .start) (a .at + l .i)) (a .at + l .i) = d .before .before .landing .ensures ∙ ap (λ (n : ℕ). lands (a .chip) n (a .at + l .i)) (d .before .before .before .cut-start .ensures) in
+    let stored : c .before .before .store .last .0 ≡ sets (l .image) (d .before .before .landing .result) (take k (drop (l .i) (a .«data» .now))) =
+    c .before .before .store .ensures ∙ ap (λ (n : ℕ). sets (l .image) (d .before .before .landing .result) (take n (drop (l .i) (a .«data» .now)))) e in (
+      omega (arith, d .least2 .ensures .2),
+      omega (arith, cut-before (d .before .before .before)),
+      ap length stored ∙ length-sets (l .image) (d .before .before .landing .result) (take k (drop (l .i) (a .«data» .now))) ∙ l .inv .2,
+      l .inv .3
+          ∙ write-run (a .reader) (a .chip) (l .image) (l .start) (a .at) (l .i) k (a .«data» .now) (omega arith) (omega (arith, d .least2 .ensures .2)) (run-reader d) (omega (arith, ap (λ (n : ℕ). n % a .chip) to, run-chip d))
+          ∙ rw (stored, ← (d .before .before .before .cut-start .ensures), ← (d .before .before .landing .ensures)),
     )
 
 same-length : tie.Need-same-length Inv-loop μ-loop
@@ -82,13 +139,21 @@ write-round-spec =
     Inv-loop
     μ-loop
     loop-holds
-    add-cut-start
+    add-a
     cut-start-requires
-    add-landing
     landing-requires
-    shared-slice-read-image
-    slice-write-image
-    add-i
+    rem-least
+    sub-least
+    rem-least-2
+    sub-least-2
+    least-requires
+    sub-least-3
+    least-requires-2
+    add-end
+    sub-store
+    part-store-start
+    part-store-end
+    store-requires
     loop-less
     loop-again
     same-length
