@@ -3,6 +3,7 @@
 // tested. The rules are written in specs/: Reads, Pages, Codes, and card's Counters and Protection.
 
 use words::lay;
+use words::least;
 use words::same_bytes;
 use words::wide;
 ghost use mathlib.Core.Path.{_≡_};
@@ -131,14 +132,6 @@ fn landing(chip: usize, c: usize, a: usize) -> usize
 {
     let low = c % chip;
     c - low + (low + (a - c)) % chip
-}
-
-// The lesser of two numbers.
-fn least(a: usize, b: usize) -> usize
-    requires { ⌜ (0 < a) × (0 < b) ⌝ }
-    ensures { λ r. ⌜ (0 < r) × (r ≤ a) × (r ≤ b) ⌝ }
-{
-    if a < b { a } else { b }
 }
 
 // The data written from `at` on, run by run: cut at the reader page, each cut running round on the chip page. A run goes to the end of

@@ -2,7 +2,7 @@
 use borrow.Author.Needs.{needs}
 use mathlib.Core.Path.{_≡_, refl, sym, ap, _∙_}
 use native.Mathlib.Omega.{arith}
-use Prim.Native.Nat.{ℕ, _+_, _-_, _%_, _≤_, _<_}
+use Prim.Native.Nat.{ℕ, _+_, _-_, _%_, _≤_, _<_, min}
 use mathlib.Core.List.{List}
 use lib.ListN.{length, take, drop, length-drop}
 use lib.Seq.{sets, length-sets, length-take-le}
@@ -57,23 +57,23 @@ sub-least-2 : tie.Need-sub-least-2 Inv-loop μ-loop
 sub-least-2 c = omega (arith, left-chip c)
 
 least-requires : tie.Need-least-requires Inv-loop μ-loop
-least-requires c κs = (omega (arith, left-reader c), omega (arith, left-chip c))
+least-requires c κs = search needs
 
 sub-least-3 : tie.Need-sub-least-3 Inv-loop μ-loop
 sub-least-3 c = search needs
 
 least-requires-2 : tie.Need-least-requires-2 Inv-loop μ-loop
-least-requires-2 c κs = (c .least .ensures .0, omega arith)
+least-requires-2 c κs = search needs
 
 add-end : tie.Need-add-end Inv-loop μ-loop
-add-end c = omega (arith, c .least2 .ensures .2)
+add-end c = omega (arith, c .least2 .ensures)
 
 -- the run goes no further than the reader page, the chip page and the image
 run-reader : (c : tie.After-least2 Inv-loop μ-loop) → (c .before .before .before .before .before .before .before .before .args .at + c .before .before .before .before .before .loop .i) % c .before .before .before .before .before .before .before .before .args .reader + c .least2 .result ≤ c .before .before .before .before .before .before .before .before .args .reader
-run-reader c = omega (arith, c .least2 .ensures .1, c .before .least .ensures .1, left-reader (c .before .before))
+run-reader c = omega (arith, c .least2 .ensures, c .before .least .ensures, left-reader (c .before .before))
 
 run-chip : (c : tie.After-least2 Inv-loop μ-loop) → c .before .before .landing .result % c .before .before .before .before .before .before .before .before .args .chip + c .least2 .result ≤ c .before .before .before .before .before .before .before .before .args .chip
-run-chip c = omega (arith, c .least2 .ensures .1, c .before .least .ensures .2, left-chip (c .before .before))
+run-chip c = omega (arith, c .least2 .ensures, c .before .least .ensures, left-chip (c .before .before))
 
 run-inside : (c : tie.After-least2 Inv-loop μ-loop) → c .before .before .landing .result + c .least2 .result ≤ length (c .before .before .before .before .before .loop .image)
 run-inside c =
@@ -98,10 +98,23 @@ store-requires c κs =
     let i : ℕ = c .before .before .before .before .before .before .before .loop .i in
     let part : List ℕ = drop i (c .before .before .before .before .before .before .before .before .before .before .args .«data» .now) in
     let k : ℕ = i + c .before .before .least2 .result - i in
-    omega (arith, length-take-le k part (omega (arith, length-drop i (c .before .before .before .before .before .before .before .before .before .before .args .«data» .now), c .before .before .least2 .ensures .2)), run-inside (c .before .before))
+    omega (arith, length-take-le k part (omega (arith, length-drop i (c .before .before .before .before .before .before .before .before .before .before .args .«data» .now), c .before .before .least2 .ensures)), run-inside (c .before .before))
+
+-- the lesser of two that are some is some
+some-min : (m n : ℕ) → 0 < m → 0 < n → 0 < min m n
+some-min m n p q = omega arith
+
+-- a run is one byte at least
+run-some : (c : tie.After-least2 Inv-loop μ-loop) → 0 < c .least2 .result
+run-some c =
+    let page : 0 < c .before .least .result = rw (c .before .least .ensures) (some-min _ _ (omega (arith, left-reader (c .before .before))) (omega (arith, left-chip (c .before .before)))) in
+    rw (c .least2 .ensures) (some-min _ _ page (omega arith))
+
+closer : (n i k : ℕ) → i < n → 0 < k → n - (i + k) < n - i
+closer n i k h p = omega arith
 
 loop-less : tie.Need-loop-less Inv-loop μ-loop
-loop-less c = search needs
+loop-less c = closer _ _ _ (omega arith) (run-some (c .before .before .before .before .before))
 
 loop-again : tie.Need-loop-again Inv-loop μ-loop
 loop-again c =
@@ -113,11 +126,11 @@ loop-again c =
     let to : d .before .before .landing .result ≡ lands (a .chip) (cutStart (a .reader) (l .start) (a .at + l .i)) (a .at + l .i) = d .before .before .landing .ensures ∙ ap (λ (n : ℕ). lands (a .chip) n (a .at + l .i)) (d .before .before .before .cut-start .ensures) in
     let stored : c .before .before .store .last .0 ≡ sets (l .image) (d .before .before .landing .result) (take k (drop (l .i) (a .«data» .now))) =
     c .before .before .store .ensures ∙ ap (λ (n : ℕ). sets (l .image) (d .before .before .landing .result) (take n (drop (l .i) (a .«data» .now)))) e in (
-      omega (arith, d .least2 .ensures .2),
+      omega (arith, d .least2 .ensures),
       omega (arith, cut-before (d .before .before .before)),
       ap length stored ∙ length-sets (l .image) (d .before .before .landing .result) (take k (drop (l .i) (a .«data» .now))) ∙ l .inv .2,
       l .inv .3
-          ∙ write-run (a .reader) (a .chip) (l .image) (l .start) (a .at) (l .i) k (a .«data» .now) (omega arith) (omega (arith, d .least2 .ensures .2)) (run-reader d) (omega (arith, ap (λ (n : ℕ). n % a .chip) to, run-chip d))
+          ∙ write-run (a .reader) (a .chip) (l .image) (l .start) (a .at) (l .i) k (a .«data» .now) (omega arith) (omega (arith, d .least2 .ensures)) (run-reader d) (omega (arith, ap (λ (n : ℕ). n % a .chip) to, run-chip d))
           ∙ rw (stored, ← (d .before .before .before .cut-start .ensures), ← (d .before .before .landing .ensures)),
     )
 
