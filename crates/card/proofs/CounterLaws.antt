@@ -5,7 +5,7 @@ use native.Mathlib.Nat.{pow-suc}
 use native.Mathlib.Omega.{arith}
 use lib.Count.{ones, ones-step, trailingZeros, under}
 use borrow.Author.Tests.{eq-eqb, ne-eqb}
-use Rattle.words.specs.Choice.{_⇒_⁏_, _is_}
+use Rattle.words.specs.Choice.{_is_}
 use Rattle.words.proofs.Choices.{first, rest, either}
 use Rattle.card.specs.Counters.{tries, spent}
 

@@ -1,7 +1,7 @@
 -- What a handler leaves in the lent buffer: its data, and 90 00 behind them.
 use mathlib.Core.Path.{_≡_, ap, _∙_, subst⁻¹}
 use Prim.Native.Nat.{ℕ, _+_, _≤_}
-use mathlib.Core.List.{List, _∷_, [], _++_}
+use mathlib.Core.List.{List, _++_}
 use lib.ListN.{length, set}
 use Rattle.words.specs.Bytes.{over}
 use Rattle.words.proofs.Lists.{over-two}

@@ -1,16 +1,15 @@
 -- Laws of reads: code bytes blanked in the buffer are code bytes blanked in the image.
 use mathlib.Core.Path.{_≡_, refl, sym, ap, _∙_}
-use mathlib.Core.List.{List, [], _∷_, _++_}
+use mathlib.Core.List.{List, _++_}
 use mathlib.Core.Bool.{Bool, true, false}
 use Prim.Native.Nat.{ℕ, zero, suc, _+_, _-_, _≤_, _<_}
 use native.Mathlib.Decide.{decLe}
 use native.Mathlib.Nat.{lt-of-not-le}
 use native.Mathlib.Numerals.{add-one}
 use native.Mathlib.Omega.{arith}
-use lib.ListN.{length, take, drop, set, replicate, length-set, length-take, length-drop, length-replicate, replicate-append-replicate}
+use lib.ListN.{length, take, drop, set, replicate, length-set, length-drop, length-replicate, replicate-append-replicate}
 use lib.Seq.{sets, length-sets, length-take-le, set-append-left, take-set-le, take-set-lt, drop-set-lt, drop-set-add}
 use borrow.Author.Tests.{le-leb, lt-leb, lt-ltb, le-ltb}
-use Rattle.words.specs.Choice.{_⇒_⁏_}
 use Rattle.words.specs.Bytes.{over}
 use Rattle.words.proofs.Choices.{either, first, rest, taken, passed}
 use Rattle.words.proofs.Lists.{length-run, sets-snoc}

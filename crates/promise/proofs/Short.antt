@@ -1,12 +1,11 @@
 -- "No answer is longer than 267 bytes": ten of the header, and at most 257 of data, P3 being a byte.
-use mathlib.Core.Path.{_≡_, refl, sym, ap, _∙_, subst⁻¹}
-use Prim.Native.Nat.{ℕ, _+_, _≤_, _<_}
-use mathlib.Core.Bool.{Bool, true, not}
-use mathlib.Core.List.{List, [], _∷_, _++_}
+use mathlib.Core.Path.{_≡_}
+use Prim.Native.Nat.{ℕ, _≤_, _<_}
+use mathlib.Core.Bool.{true}
+use mathlib.Core.List.{List, []}
 use native.Mathlib.Omega.{arith}
-use lib.ListN.{length, take, length-append, length-take}
+use lib.ListN.{length, length-take}
 use borrow.Author.Tests.{not-false}
-use Rattle.words.specs.Choice.{_⇒_⁏_}
 use Rattle.words.specs.Bytes.{fourBytes}
 use Rattle.words.proofs.Choices.{past, either}
 use Rattle.card.specs.Kinds.{Facts, facts}
@@ -20,7 +19,7 @@ use Rattle.steps.proofs.Decisions.{order-fits, order-short}
 use Rattle.command.specs.Orders.{Deed, commanded, performed}
 use Rattle.command.proofs.Lengths.{said-short}
 use Rattle.reader.specs.declared.Fault.{Fault}
-use Rattle.reader.specs.Messages.{Request, PowerOn, PowerOff, SlotStatus, Transfer, Unsupported, apdu, typeByte, requestOf, faultOf, isClear, header, answer}
+use Rattle.reader.specs.Messages.{Request, PowerOn, PowerOff, SlotStatus, Transfer, Unsupported, apdu, typeByte, requestOf, faultOf, header, answer}
 use Rattle.reader.specs.Exchange.{Outcome, reset, deed, replied, reply, exchange}
 
 reset-short : (f : Facts) (image : List ℕ) → length (reset f image) ≤ 257

@@ -1,13 +1,12 @@
 -- Laws of answers: a sealed header and the data behind it are the answer, a reply is failed or done, and an exchange is turned down or a reply.
 use mathlib.Core.Path.{_≡_, refl, sym, ap, _∙_, subst, subst⁻¹}
 use Prim.Native.Nat.{ℕ, zero, suc, _+_, _≤_, _<_}
-use mathlib.Core.Bool.{Bool, true, false, not, false≢true}
-use mathlib.Core.List.{List, [], _∷_, _++_, append-nil}
+use mathlib.Core.Bool.{true, false, not, false≢true}
+use mathlib.Core.List.{List, _++_}
 use native.Mathlib.Omega.{arith}
 use lib.ListN.{length, take, drop, length-append, take-append-drop}
-use lib.Dec.{ltb}
-use borrow.Author.Tests.{le-ltb, lt-ltb}
-use Rattle.words.specs.Choice.{_⇒_⁏_, _or_}
+use borrow.Author.Tests.{le-ltb}
+use Rattle.words.specs.Choice.{_or_}
 use Rattle.words.specs.Bytes.{over, fourBytes}
 use Rattle.words.proofs.Choices.{first, rest, either}
 use Rattle.words.proofs.Lists.{over-head, over-none}
@@ -19,7 +18,7 @@ use Rattle.reader.specs.declared.Refusal.{Refusal}
 use Rattle.reader.specs.declared.Verdict.{Verdict}
 use Rattle.reader.specs.declared.Reply.{Reply}
 use Rattle.reader.specs.Messages.{Request, bSlot, bSeq, typeByte, requestOf, answerType, faultOf, isClear, bError, cardState, bStatus, byte9, header, answer}
-use Rattle.reader.specs.Exchange.{Outcome, number, numberOf, answerLength, turnedDown, idle, deed, answered, replied, reply, exchange, Gives, Sealed}
+use Rattle.reader.specs.Exchange.{Outcome, number, answerLength, turnedDown, idle, deed, answered, replied, reply, exchange, Gives, Sealed}
 
 pub gives-is : {o o′ : Outcome} {r : Reply} {left was holds : List ℕ} → o ≡ o′ → Gives o′ r left was holds → Gives o r left was holds
 gives-is {o} {o′} {r} {left} {was} {holds} e g = subst⁻¹ (λ (x : Outcome). Gives x r left was holds) e g

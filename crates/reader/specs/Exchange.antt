@@ -1,13 +1,12 @@
 -- One message, one insertion, one removal: what comes of each, for every input.
 use mathlib.Core.Path.{_≡_}
 use Prim.Native.Nat.{ℕ, _+_}
-use mathlib.Core.Bool.{Bool, true, false, not}
+use mathlib.Core.Bool.{true, false, not}
 use mathlib.Core.List.{List, [], _∷_}
 use lib.ListN.{length, take}
 use lib.Dec.{ltb}
 use Rattle.words.specs.Choice.{_⇒_⁏_, _isnt_}
 use Rattle.words.specs.Bytes.{over}
-use Rattle.card.specs.declared.Chip.{Chip}
 use Rattle.card.specs.declared.Known.{Known}
 use Rattle.card.specs.declared.Known.the-variants.{Is, Unknown}
 use Rattle.card.specs.Kinds.{Facts, facts, chipOf}

@@ -2,10 +2,10 @@
 use Prim.Native.Nat.{ℕ}
 use mathlib.Core.Bool.{Bool, true, false, not}
 use mathlib.Core.List.{List}
-use Rattle.words.specs.Choice.{_⇒_⁏_, _and_, _or_, _means_, _is_}
+use Rattle.words.specs.Choice.{_and_, _or_, _means_, _is_}
 use Rattle.words.specs.Bytes.{byte}
 use Rattle.card.specs.declared.Chip.{Chip}
-use Rattle.card.specs.Kinds.{Facts, facts}
+use Rattle.card.specs.Kinds.{facts}
 use Rattle.card.specs.Images.{isCard}
 use Rattle.slot.specs.declared.Holds.{Holds}
 use Rattle.slot.specs.declared.Holds.the-variants.{Empty, Card}

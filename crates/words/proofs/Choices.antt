@@ -1,6 +1,6 @@
 -- Laws of choices: what holds of a chain, two chains alike, and a return that meets one.
 use mathlib.Core.Path.{_≡_, refl, subst⁻¹}
-use mathlib.Core.Bool.{Bool, true, false, not, true≢false, false≢true}
+use mathlib.Core.Bool.{Bool, true, false, true≢false, false≢true}
 use mathlib.Core.Logic.{_⊎_, inl, inr}
 use Rattle.words.specs.Choice.{_⇒_⁏_, _and_, _or_, _means_}
 

@@ -7,13 +7,13 @@ use Prim.Native.Nat.{ℕ, zero, suc, _+_, _-_, _≤_, _<_}
 use native.Mathlib.Nat.{zero-add, not-suc-le-zero, le-of-suc-le-suc, add-suc, suc-add, add-zero}
 use native.Mathlib.Numerals.{add-one}
 use native.Mathlib.Omega.{arith}
-use lib.ListN.{length, take, drop, set, getD, replicate, length-append, length-take, length-drop, length-set, drop-of-length-le}
-use lib.Seq.{length-take-le, set-at, drop-cons, drop-drop, drop-at, append-snoc, take-all, drop-set-lt, sets, getD-set-other, getD-set-same}
+use lib.ListN.{length, take, drop, set, getD, length-append, length-drop, drop-of-length-le}
+use lib.Seq.{length-take-le, set-at, drop-cons, drop-drop, drop-at, append-snoc, take-all, drop-set-lt, sets, getD-set-other}
 use borrow.Rule.Slice.PartMut.{putMid}
-use borrow.Author.Tests.{eq-eqb, ne-eqb, eqb-true}
+use borrow.Author.Tests.{eq-eqb, eqb-true}
 use Rattle.words.specs.Choice.{_and_, _is_}
 use Rattle.words.specs.Bytes.{byte, same, fourAt, over, run}
-use Rattle.words.proofs.Choices.{and-fails, and-holds, and-true}
+use Rattle.words.proofs.Choices.{and-holds, and-true}
 
 -- ---- bytes over a buffer
 -- a loop that copies from the front: one turn
