@@ -41,11 +41,12 @@ pub record Coded (f : Facts) : Type 0 where
   pub behind : f .counter < f .code
   pub apart : (f .counter < f .bits) ⊎ (f .bits + (f .reach + 7) / 8 ≤ f .counter)
   pub opens : 0 < f .full
+  pub long : 2 ≤ f .digits
   pub pageless : f .page ≡ 0
 
 pub coded : (chip : Chip) → facts chip .coded ≡ true → Coded (facts chip)
-coded Chip.Sle4428 e = record { coded = e; inside = omega arith; behind = omega arith; apart = inl (omega arith); opens = omega arith; pageless = refl }
-coded Chip.Sle4442 e = record { coded = e; inside = omega arith; behind = omega arith; apart = inr (omega arith); opens = omega arith; pageless = refl }
+coded Chip.Sle4428 e = record { coded = e; inside = omega arith; behind = omega arith; apart = inl (omega arith); opens = omega arith; long = omega arith; pageless = refl }
+coded Chip.Sle4442 e = record { coded = e; inside = omega arith; behind = omega arith; apart = inr (omega arith); opens = omega arith; long = omega arith; pageless = refl }
 coded Chip.I2c1 e = absurd (false≢true e)
 coded Chip.I2c2 e = absurd (false≢true e)
 coded Chip.I2c4 e = absurd (false≢true e)

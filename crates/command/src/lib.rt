@@ -114,7 +114,7 @@ fn read(chip: Chip, slot: Slot, image: &[u8], at: usize, n: usize, out: &mut [u8
 }
 
 fn read_counter(chip: Chip, slot: Slot, image: &[u8], n: usize, out: &mut [u8]) -> Told
-    requires { ⌜ (261 ≤ length (now out)) × (facts chip .counter < length (now image)) × (1 ≤ n) × (n ≤ 255) ⌝ }
+    requires { ⌜ (261 ≤ length (now out)) × (facts chip .counter < length (now image)) × (3 ≤ n) × (n ≤ 4) ⌝ }
     ensures { λ r. ⌜ ((b : List ℕ) → Does (performed (facts chip) slot (now (image .entry)) b (Order.Counter n)) r (now (image .entry)) (now (out .entry)) (now (out .exit))) ⌝ }
 {
     memory::read_counter(image, chip.counter(), n, out);

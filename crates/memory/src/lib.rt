@@ -52,16 +52,16 @@ pub fn blank(at: usize, end: usize, code: usize, n: usize, out: &mut [u8])
     }
 }
 
-// The counter, then n - 1 bytes 00h.
+// The counter, then n - 1 bytes 00h: two, or three.
 pub fn read_counter(image: &[u8], counter: usize, n: usize, out: &mut [u8])
-    requires { ⌜ (counter < length (now image)) × (1 ≤ n) × (n ≤ length (now out)) ⌝ }
+    requires { ⌜ (counter < length (now image)) × (3 ≤ n) × (n ≤ 4) × (n ≤ length (now out)) ⌝ }
     ensures { λ _. ⌜ now (out .exit) ≡ over (counterRead counter (now (image .entry)) n) (now (out .entry)) ⌝ }
 {
     out[0] = image[counter];
-    let mut i = 1;
-    while i < n {
-        out[i] = 0;
-        i += 1;
+    out[1] = 0;
+    out[2] = 0;
+    if 3 < n {
+        out[3] = 0;
     }
 }
 

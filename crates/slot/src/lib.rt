@@ -15,11 +15,11 @@ pub enum Holds {
 pub struct Slot {
     pub holds: Holds,
     pub active: bool,
+    pub open: bool,
     // The selected type; 0 is none.
     pub selected: u8,
     // The reader page.
     pub page: u8,
-    pub open: bool,
 }
 
 // The empty sound slot, which a reader starts with.

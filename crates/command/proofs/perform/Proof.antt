@@ -40,7 +40,11 @@ enum-known-order-4 : tie.Need-enum-known-order-4
 enum-known-order-4 c = search needs
 
 read-counter-requires : tie.Need-read-counter-requires
-read-counter-requires c κs = (omega arith, omega (arith, c .before .before .before .before .before .before .before .before .pre .1, coded (c .before .before .before .before .before .before .before .before .args .chip) (subst (λ (o : Order). Fit (facts (c .before .before .before .before .before .before .before .before .args .chip)) (c .before .before .before .before .before .before .before .before .args .«data» .now) o) (c .before .before .before .order4 .given .1) (c .before .before .before .before .before .before .before .before .pre .3) .0) .inside), omega (arith, subst (λ (o : Order). Fit (facts (c .before .before .before .before .before .before .before .before .args .chip)) (c .before .before .before .before .before .before .before .before .args .«data» .now) o) (c .before .before .before .order4 .given .1) (c .before .before .before .before .before .before .before .before .pre .3) .1), omega (arith, subst (λ (o : Order). Fit (facts (c .before .before .before .before .before .before .before .before .args .chip)) (c .before .before .before .before .before .before .before .before .args .«data» .now) o) (c .before .before .before .order4 .given .1) (c .before .before .before .before .before .before .before .before .pre .3) .1, laid (c .before .before .before .before .before .before .before .before .args .chip) .digits))
+read-counter-requires c κs =
+    let a = c .before .before .before .before .before .before .before .before .args in
+    let fit = subst (λ (o : Order). Fit (facts (a .chip)) (a .«data» .now) o) (c .before .before .before .order4 .given .1) (c .before .before .before .before .before .before .before .before .pre .3) in
+    let f = coded (a .chip) (fit .0) in
+    (omega arith, omega (arith, c .before .before .before .before .before .before .before .before .pre .1, f .inside), omega (arith, fit .1, f .long), omega (arith, fit .1, laid (a .chip) .digits))
 
 enum-known-order-5 : tie.Need-enum-known-order-5
 enum-known-order-5 c = search needs
