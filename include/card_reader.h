@@ -1,8 +1,8 @@
 /* The card reader for C: one host message, one card put in, one card taken out.
  *
  * Link libraw.a, which `rt staticlib raw` writes to target/staticlib/. The library allocates nothing, keeps nothing
- * between calls and has no globals: all it knows stands in the record and the image that the caller lends it. The one
- * C function it calls is memset.
+ * between calls, has no globals and calls nothing of C's: all it knows stands in the record and the image that the
+ * caller lends it.
  * Any bytes may come as record, image and message; every call has its one result, which is proved.
  *
  * Each slice is a pointer and a length in bytes. What the caller has to see to, as for any C function:
