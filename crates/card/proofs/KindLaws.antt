@@ -1,6 +1,6 @@
 -- Laws of the table: what holds of every kind, and how a code card is laid out.
 use mathlib.Core.Path.{_≡_, refl}
-use mathlib.Core.Bool.{true, false, false≢true}
+use mathlib.Core.Bool.{true, false, false≢true, true≢false}
 use mathlib.Core.Logic.{_⊎_, inl, inr}
 use Prim.Native.Nat.{_+_, _/_, _%_, _≤_, _<_}
 use native.Mathlib.Omega.{arith}
@@ -56,6 +56,20 @@ coded Chip.I2c32 e = absurd (false≢true e)
 coded Chip.I2c64 e = absurd (false≢true e)
 coded Chip.I2c128 e = absurd (false≢true e)
 coded Chip.I2c256 e = absurd (false≢true e)
+
+-- a card without a code has no code bytes
+pub codeless : (chip : Chip) → facts chip .coded ≡ false → facts chip .digits ≡ 0
+codeless Chip.I2c1 e = refl
+codeless Chip.I2c2 e = refl
+codeless Chip.I2c4 e = refl
+codeless Chip.I2c8 e = refl
+codeless Chip.I2c16 e = refl
+codeless Chip.I2c32 e = refl
+codeless Chip.I2c64 e = refl
+codeless Chip.I2c128 e = refl
+codeless Chip.I2c256 e = refl
+codeless Chip.Sle4428 e = absurd (true≢false e)
+codeless Chip.Sle4442 e = absurd (true≢false e)
 
 -- how a card with pages is laid out: its image is whole chip pages
 pub record Paged (f : Facts) : Type 0 where

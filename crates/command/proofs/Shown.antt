@@ -1,7 +1,7 @@
 -- A card that is not a closed code card shows its bytes.
 use mathlib.Core.Path.{_≡_, refl, _∙_}
 use Prim.Native.Nat.{ℕ}
-use mathlib.Core.Bool.{Bool, true, false, not, true≢false}
+use mathlib.Core.Bool.{Bool, true, false, not}
 use mathlib.Core.List.{List}
 use borrow.Author.Tests.{not-false}
 use lib.ListN.{take, drop}
@@ -9,22 +9,9 @@ use Rattle.words.specs.Choice.{_and_}
 use Rattle.words.proofs.Choices.{and-holds}
 use Rattle.card.specs.declared.Chip.{Chip}
 use Rattle.card.specs.Kinds.{facts}
+use Rattle.card.proofs.KindLaws.{codeless}
 use Rattle.memory.specs.Reads.{bytesRead}
 use Rattle.memory.proofs.ReadLaws.{read-open, read-codeless}
-
--- a card without a code has no code bytes
-codeless : (chip : Chip) → facts chip .coded ≡ false → facts chip .digits ≡ 0
-codeless Chip.I2c1 e = refl
-codeless Chip.I2c2 e = refl
-codeless Chip.I2c4 e = refl
-codeless Chip.I2c8 e = refl
-codeless Chip.I2c16 e = refl
-codeless Chip.I2c32 e = refl
-codeless Chip.I2c64 e = refl
-codeless Chip.I2c128 e = refl
-codeless Chip.I2c256 e = refl
-codeless Chip.Sle4428 e = absurd (true≢false e)
-codeless Chip.Sle4442 e = absurd (true≢false e)
 
 pub shown-whole : (chip : Chip) (o : Bool) (image : List ℕ) (at n : ℕ) → (facts chip .coded and not o) ≡ false
     → take n (drop at image) ≡ bytesRead (facts chip .code) (facts chip .digits) o image at n

@@ -6,10 +6,10 @@ use Prim.Native.Nat.{ℕ, _+_, _-_, _*_, _/_, _%_, _≤_, _<_}
 use native.Mathlib.Omega.{arith}
 use native.Mathlib.Numerals.{add-one}
 use lib.ListN.{length, take, drop, set, getD, length-append, length-take, length-drop}
-use lib.Seq.{take-at, drop-at, drop-drop, take-suc, length-take-le, getD-append-add, getD-drop}
+use lib.Seq.{take-suc, length-take-le, getD-append-add, getD-drop}
 use borrow.Rule.Slice.PartMut.{putMid}
 use Rattle.words.specs.Bytes.{byte, over}
-use Rattle.words.proofs.Lists.{lent-tail, over-two, over-snoc, copy-more, tail-is}
+use Rattle.words.proofs.Lists.{over-lent, over-two, over-snoc, copy-more}
 use native.Mathlib.Nat.{add-comm}
 use Rattle.session.specs.Lines.{digitOf, hex, rest}
 
@@ -33,20 +33,6 @@ pub hex-more : (l d : List ℕ) (i n : ℕ) → i < length l → n ≡ 2 * i →
 hex-more l d i n h e k =
     over-two (hex (take i l)) d n _ _ (length-hex (take i l) ∙ omega (arith, length-take i l, h, e)) k
     ∙ ap (λ (t : List ℕ). over t d) (sym (hex-next l i h))
-
--- bytes behind bytes
-over-more : (n : ℕ) (b c d : List ℕ) → length b ≡ n → take n (over b d) ++ over c (drop n (over b d)) ≡ over (b ++ c) d
-unfolding over
-over-more n b c d e =
-    ap (λ (t : List ℕ). t ++ over c (drop n (over b d))) (take-at b (drop (length b) d) n e)
-    ∙ ap (λ (t : List ℕ). b ++ over c t) (drop-at b (drop (length b) d) n e)
-    ∙ ap (λ (t : List ℕ). b ++ (c ++ t)) (drop-drop (length c) (length b) d)
-    ∙ sym (append-assoc b c (drop (length b + length c) d))
-    ∙ ap (λ (k : ℕ). (b ++ c) ++ drop k d) (sym (length-append b c))
-
--- `&mut a[k..]` was lent, where a held b, and came back with c over it
-pub over-lent : (k : ℕ) (a b c d : List ℕ) {y : List ℕ} → a ≡ over b d → length b ≡ k → y ≡ over c (take (length a - k) (drop k a)) → putMid k (length a - k) a y ≡ over (b ++ c) d
-over-lent k a b c d p e h = lent-tail k a c h ∙ ap (λ (t : List ℕ). take k t ++ over c (drop k t)) p ∙ over-more k b c d e
 
 -- ---- sliding
 -- a loop that slides bytes to the front: one turn, which reads ahead of what it has written
@@ -90,7 +76,3 @@ pub line-lent : (w r d : List ℕ) (n x : ℕ) {a y : List ℕ} → a ≡ over w
 line-lent w r d n x {a} p e h q =
     over-lent (n + 1) (set a n x) (w ++ (x ∷ [])) r d (ap (λ (t : List ℕ). set t n x) p ∙ over-snoc w d x n (sym e) h) (length-append w (x ∷ []) ∙ ap (λ (k : ℕ). k + 1) (sym e)) q
     ∙ ap (λ (t : List ℕ). over t d) (append-assoc w (x ∷ []) r)
-
--- what is lent behind k bytes
-pub length-tail : (k : ℕ) (a : List ℕ) → length (take (length a - k) (drop k a)) ≡ length a - k
-length-tail k a = ap length (tail-is k a) ∙ length-drop k a

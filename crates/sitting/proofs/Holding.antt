@@ -2,15 +2,14 @@
 -- the image that its outcome says.
 use mathlib.Core.Path.{_≡_, refl, sym, ap, _∙_, subst⁻¹}
 use mathlib.Core.Bool.{Bool, true, false}
-use mathlib.Core.List.{List, [], _∷_, _++_}
-use Prim.Native.Nat.{ℕ, _+_, _≤_, _<_, min}
+use mathlib.Core.List.{List, [], _++_}
+use Prim.Native.Nat.{ℕ, _+_, _≤_}
 use native.Mathlib.Omega.{arith}
-use lib.ListN.{length, take, drop, length-append, take-append-drop}
-use lib.Dec.{ltb}
-use lib.Seq.{length-take-le, take-all, take-append-seam}
+use lib.ListN.{length, take, drop, length-append}
+use lib.Seq.{length-take-le}
 use Rattle.words.specs.Choice.{_⇒_⁏_, _is_}
-use Rattle.words.proofs.Lists.{over-none}
-use borrow.Author.Tests.{eq-eqb, ne-eqb, ltb-true, ltb-false}
+use Rattle.words.proofs.Lists.{over-none, over-front, front-over}
+use borrow.Author.Tests.{eq-eqb, ne-eqb}
 use Rattle.words.specs.Bytes.{byte, over}
 use Rattle.words.proofs.Choices.{first, rest, either, past}
 use Rattle.card.specs.declared.Chip.{Chip}
@@ -62,34 +61,6 @@ insertion-fair s kind card =
     either (Fair card) (occupied (s .holds))
     (λ e. record { quiet = refl; fits = λ z. absurd (omega (arith, z)); same = refl; small = omega arith })
     (λ e. as-fair (chipOf kind) s card)
-
-pub empty-list : (l : List ℕ) → length l ≡ 0 → l ≡ []
-empty-list [] e = refl
-empty-list (x ∷ l) e = absurd (omega (arith, e))
-
--- the front of a buffer laid over it changes nothing
-pub over-front : (n : ℕ) (l : List ℕ) → n ≤ length l → over (take n l) l ≡ l
-unfolding over
-over-front n l h = ap (λ (k : ℕ). take n l ++ drop k l) (length-take-le n l h) ∙ take-append-drop n l
-
--- a list cut to no more than it has is cut the same
-min-by : (b : Bool) (n m : ℕ) (l : List ℕ) → ltb n m ≡ b → length l ≡ m → take (min n m) l ≡ take n l
-min-by true n m l h e =
-    let k : n < m = ltb-true n m h in
-    let q : min n m ≡ n = omega arith in
-    ap (λ (i : ℕ). take i l) q
-min-by false n m l h e =
-    let k : m ≤ n = ltb-false n m h in
-    let q : min n m ≡ m = omega arith in
-    ap (λ (i : ℕ). take i l) q ∙ take-all m l (omega arith) ∙ sym (take-all n l (omega arith))
-
-pub take-min : (n m : ℕ) (l : List ℕ) → length l ≡ m → take (min n m) l ≡ take n l
-take-min n m l e = min-by (ltb n m) n m l refl e
-
--- bytes laid over a buffer are its front
-pub front-over : (b d : List ℕ) → take (length b) (over b d) ≡ b
-unfolding over
-front-over b d = take-append-seam b (drop (length b) d)
 
 -- ---- a record that is done
 pub does-is : {o o′ : Outcome} {r : Done} {had left was holds : List ℕ} → o ≡ o′ → Does o′ r had left was holds → Does o r had left was holds

@@ -3,14 +3,15 @@ use mathlib.Core.Path.{_≡_, refl, sym, ap, _∙_}
 use mathlib.Core.List.{List, [], _∷_, _++_, append-assoc, append-nil}
 use mathlib.Core.Bool.{Bool, true, false}
 use mathlib.Core.Logic.{_⊎_, inl, inr}
-use Prim.Native.Nat.{ℕ, zero, suc, _+_, _-_, _≤_, _<_}
+use Prim.Native.Nat.{ℕ, zero, suc, _+_, _-_, _≤_, _<_, min}
 use native.Mathlib.Nat.{zero-add, not-suc-le-zero, le-of-suc-le-suc, add-suc, suc-add, add-zero}
 use native.Mathlib.Numerals.{add-one}
 use native.Mathlib.Omega.{arith}
-use lib.ListN.{length, take, drop, set, getD, length-append, length-drop, drop-of-length-le}
-use lib.Seq.{length-take-le, set-at, drop-cons, drop-drop, drop-at, append-snoc, take-all, drop-set-lt, sets, getD-set-other}
+use lib.ListN.{length, take, drop, set, getD, length-append, length-drop, drop-of-length-le, take-append-drop}
+use lib.Seq.{length-take-le, set-at, drop-cons, drop-drop, drop-at, append-snoc, take-at, take-all, take-append-seam, drop-set-lt, sets, getD-set-other}
+use lib.Dec.{ltb}
 use borrow.Rule.Slice.PartMut.{putMid}
-use borrow.Author.Tests.{eq-eqb, eqb-true}
+use borrow.Author.Tests.{eq-eqb, eqb-true, ltb-true, ltb-false}
 use Rattle.words.specs.Choice.{_and_, _is_}
 use Rattle.words.specs.Bytes.{byte, same, fourAt, over, run}
 use Rattle.words.proofs.Choices.{and-holds, and-true}
@@ -69,6 +70,26 @@ over-head k h b a e l =
     ∙ sym (append-assoc h b (drop (length b) (drop k a)))
     ∙ ap (λ (t : List ℕ). (h ++ b) ++ t) (drop-drop (length b) k a ∙ ap (λ (m : ℕ). drop m a) (sym (length-append h b ∙ ap (λ (m : ℕ). m + length b) e)))
 
+-- the front of a buffer laid over it changes nothing
+pub over-front : (n : ℕ) (l : List ℕ) → n ≤ length l → over (take n l) l ≡ l
+unfolding over
+over-front n l h = ap (λ (k : ℕ). take n l ++ drop k l) (length-take-le n l h) ∙ take-append-drop n l
+
+-- bytes laid over a buffer are its front
+pub front-over : (b d : List ℕ) → take (length b) (over b d) ≡ b
+unfolding over
+front-over b d = take-append-seam b (drop (length b) d)
+
+-- bytes behind bytes
+over-more : (n : ℕ) (b c d : List ℕ) → length b ≡ n → take n (over b d) ++ over c (drop n (over b d)) ≡ over (b ++ c) d
+unfolding over
+over-more n b c d e =
+    ap (λ (t : List ℕ). t ++ over c (drop n (over b d))) (take-at b (drop (length b) d) n e)
+    ∙ ap (λ (t : List ℕ). b ++ over c t) (drop-at b (drop (length b) d) n e)
+    ∙ ap (λ (t : List ℕ). b ++ (c ++ t)) (drop-drop (length c) (length b) d)
+    ∙ sym (append-assoc b c (drop (length b + length c) d))
+    ∙ ap (λ (k : ℕ). (b ++ c) ++ drop k d) (sym (length-append b c))
+
 -- ---- runs
 pub length-run : (f : ℕ → ℕ) (k n : ℕ) → length (run f k n) ≡ n
 unfolding run
@@ -102,6 +123,14 @@ lent-back k a y =
 -- the same where it came back with b over it
 pub lent-tail : (k : ℕ) (a b : List ℕ) {y : List ℕ} → y ≡ over b (take (length a - k) (drop k a)) → putMid k (length a - k) a y ≡ take k a ++ over b (drop k a)
 lent-tail k a b {y} e = lent-back k a y ∙ ap (λ (t : List ℕ). take k a ++ t) (e ∙ ap (over b) (tail-is k a))
+
+-- what is lent behind k bytes
+pub length-tail : (k : ℕ) (a : List ℕ) → length (take (length a - k) (drop k a)) ≡ length a - k
+length-tail k a = ap length (tail-is k a) ∙ length-drop k a
+
+-- `&mut a[k..]` was lent, where a held b, and came back with c over it
+pub over-lent : (k : ℕ) (a b c d : List ℕ) {y : List ℕ} → a ≡ over b d → length b ≡ k → y ≡ over c (take (length a - k) (drop k a)) → putMid k (length a - k) a y ≡ over (b ++ c) d
+over-lent k a b c d p e h = lent-tail k a c h ∙ ap (λ (t : List ℕ). take k t ++ over c (drop k t)) p ∙ over-more k b c d e
 
 -- ---- stores
 -- a run of stores leaves a place before it, or behind it, alone
@@ -138,6 +167,25 @@ pub same-self : (a : List ℕ) → same a a ≡ true
 unfolding same
 same-self [] = refl
 same-self (x ∷ a) = sym (and-holds (eq-eqb x x refl) (sym (same-self a)))
+
+-- ---- lengths
+pub empty-list : (l : List ℕ) → length l ≡ 0 → l ≡ []
+empty-list [] e = refl
+empty-list (x ∷ l) e = absurd (omega (arith, e))
+
+-- a list cut to no more than it has is cut the same
+min-by : (b : Bool) (n m : ℕ) (l : List ℕ) → ltb n m ≡ b → length l ≡ m → take (min n m) l ≡ take n l
+min-by true n m l h e =
+    let k : n < m = ltb-true n m h in
+    let q : min n m ≡ n = omega arith in
+    ap (λ (i : ℕ). take i l) q
+min-by false n m l h e =
+    let k : m ≤ n = ltb-false n m h in
+    let q : min n m ≡ m = omega arith in
+    ap (λ (i : ℕ). take i l) q ∙ take-all m l (omega arith) ∙ sym (take-all n l (omega arith))
+
+pub take-min : (n m : ℕ) (l : List ℕ) → length l ≡ m → take (min n m) l ≡ take n l
+take-min n m l e = min-by (ltb n m) n m l refl e
 
 -- ---- the first four bytes
 pub first-four : (l : List ℕ) → 4 ≤ length l → take 4 l ≡ byte l 0 ∷ byte l 1 ∷ byte l 2 ∷ byte l 3 ∷ []

@@ -9,7 +9,8 @@ use lib.ListN.{length, set, length-set, length-append}
 use Rattle.words.specs.Bytes.{over}
 use Rattle.words.proofs.Lists.{length-over}
 use Rattle.session.specs.Lines.{word, shows, rest, line}
-use Rattle.session.proofs.LineLaws.{line-lent, length-tail}
+use Rattle.words.proofs.Lists.{length-tail}
+use Rattle.session.proofs.LineLaws.{line-lent}
 use Rattle.session.proofs.put_line.Statement.{statement}
 use Rattle.session.proofs.put_line.Tie as tie
 

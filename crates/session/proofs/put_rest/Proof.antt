@@ -11,7 +11,8 @@ use Rattle.words.specs.Bytes.{over}
 use Rattle.words.proofs.Lists.{length-over}
 use Rattle.session.specs.Lines.{hex, rest}
 use Rattle.session.proofs.LineLaws.{length-hex}
-use Rattle.session.proofs.LineLaws.{rest-shown, rest-whole, rest-none, length-rest, length-tail}
+use Rattle.words.proofs.Lists.{length-tail}
+use Rattle.session.proofs.LineLaws.{rest-shown, rest-whole, rest-none, length-rest}
 use Rattle.session.proofs.put_rest.Statement.{statement}
 use Rattle.session.proofs.put_rest.Tie as tie
 

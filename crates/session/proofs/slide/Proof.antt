@@ -8,7 +8,7 @@ use lib.ListN.{length, take, drop, length-set, length-drop}
 use Rattle.words.proofs.Choices.{taken}
 use Rattle.words.specs.Bytes.{over}
 use lib.Seq.{length-take-le}
-use Rattle.sitting.proofs.Holding.{over-front}
+use Rattle.words.proofs.Lists.{over-front}
 use Rattle.session.proofs.LineLaws.{slide-more}
 use Rattle.session.proofs.slide.Statement.{statement}
 use Rattle.session.proofs.slide.Tie as tie

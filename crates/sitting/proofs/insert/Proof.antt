@@ -9,7 +9,8 @@ use Rattle.words.specs.Choice.{_is_}
 use Rattle.words.specs.Bytes.{byte}
 use Rattle.words.proofs.Lists.{tail-is}
 use Rattle.sitting.specs.Sittings.{inserting, performed}
-use Rattle.sitting.proofs.Holding.{empty-list, does-is}
+use Rattle.words.proofs.Lists.{empty-list}
+use Rattle.sitting.proofs.Holding.{does-is}
 use Rattle.sitting.proofs.insert.Statement.{statement}
 use Rattle.sitting.proofs.insert.Tie as tie
 

@@ -8,7 +8,8 @@ use lib.ListN.{length, take}
 use Rattle.words.specs.Choice.{_⇒_⁏_, _is_}
 use Rattle.reader.specs.Exchange.{exchange}
 use Rattle.sitting.specs.Sittings.{performed}
-use Rattle.sitting.proofs.Holding.{take-min, does-is, does-taken}
+use Rattle.words.proofs.Lists.{take-min}
+use Rattle.sitting.proofs.Holding.{does-is, does-taken}
 use Rattle.records.specs.declared.Mark.{Mark}
 use Rattle.sitting.proofs.perform.Statement.{statement}
 use Rattle.sitting.proofs.perform.Tie as tie
