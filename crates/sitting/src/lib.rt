@@ -5,9 +5,10 @@ use reader::Refusal;
 use reader::Verdict;
 use records::Mark;
 use slot::Slot;
+use words::least;
 ghost use mathlib.Core.Path.{_≡_};
 ghost use mathlib.Core.List.{List};
-ghost use Prim.Native.Nat.{ℕ, _≤_, min};
+ghost use Prim.Native.Nat.{ℕ, _≤_};
 ghost use lib.ListN.{length, take};
 ghost use Rattle.slot.specs.Slots.{removed};
 ghost use Rattle.reader.specs.Exchange.{number, numberOf, answerLength, exchange};
@@ -62,13 +63,6 @@ fn length_of(verdict: Verdict) -> usize
         Verdict::Answered(len) => len,
         Verdict::Refused(_) => 0,
     }
-}
-
-// No more than the image has.
-fn clamp(size: usize, most: usize) -> usize
-    ensures { λ r. ⌜ r ≡ min size most ⌝ }
-{
-    if size < most { size } else { most }
 }
 
 // A card of a kind is put in. Only where it is accepted are its bytes laid into the lent image.
@@ -148,7 +142,7 @@ pub fn perform(
     ensures { λ r. ⌜ Does (performed mark (now (body .entry)) (held .slot) (take (held .size) (now (image .entry))) 271) r (now (image .entry)) (now (image .exit)) (now (answer .entry)) (now (answer .exit)) ⌝ }
 {
     let slot = held.slot;
-    let size = clamp(held.size, 32768);
+    let size = least(held.size, 32768);
     match mark {
         Mark::Insert => insert(body, slot, size, image),
         Mark::Remove => remove(slot),

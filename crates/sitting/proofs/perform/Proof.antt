@@ -14,14 +14,14 @@ use Rattle.records.specs.declared.Mark.{Mark}
 use Rattle.sitting.proofs.perform.Statement.{statement}
 use Rattle.sitting.proofs.perform.Tie as tie
 
-clamp-requires : tie.Need-clamp-requires
-clamp-requires c κs = search needs
+least-requires : tie.Need-least-requires
+least-requires c κs = search needs
 
 enum-told : tie.Need-enum-told
 enum-told c = search needs
 
 insert-requires : tie.Need-insert-requires
-insert-requires c κs = (omega arith, omega (arith, c .before .before .before .clamp .ensures))
+insert-requires c κs = (omega arith, omega (arith, c .before .before .before .least .ensures))
 
 enum-told-2 : tie.Need-enum-told-2
 enum-told-2 c = search needs
@@ -33,14 +33,14 @@ enum-told-3 : tie.Need-enum-told-3
 enum-told-3 c = search needs
 
 message-requires : tie.Need-message-requires
-message-requires c κs = omega (arith, c .before .before .before .before .clamp .ensures)
+message-requires c κs = omega (arith, c .before .before .before .before .least .ensures)
 
 returns : tie.Need-returns
 unfolding _⇒_⁏_
 returns c =
     let a = c .before .before .before .before .before .before .before .args in
     let im : List ℕ = a .image .now in
-    let t : take (c .before .before .before .before .clamp .result) im ≡ take (a .held .size) im = ap (λ (n : ℕ). take n im) (c .before .before .before .before .clamp .ensures) ∙ take-min (a .held .size) 32768 im (omega arith) in
+    let t : take (c .before .before .before .before .least .result) im ≡ take (a .held .size) im = ap (λ (n : ℕ). take n im) (c .before .before .before .before .least .ensures) ∙ take-min (a .held .size) 32768 im (omega arith) in
     does-is (ap (λ (m : Mark). performed m (a .body .now) (a .held .slot) (take (a .held .size) im) 271) (c .before .before .enum-told .given .1) ∙ ap (λ (b : List ℕ). performed Mark.Insert (a .body .now) (a .held .slot) b 271) (sym t)) (c .insert .ensures (a .answer .now))
 
 returns-2 : tie.Need-returns-2
@@ -55,7 +55,7 @@ unfolding performed
 returns-3 c =
     let a = c .before .before .before .before .before .before .before .before .args in
     let im : List ℕ = a .image .now in
-    let t : take (c .before .before .before .before .before .clamp .result) im ≡ take (a .held .size) im = ap (λ (n : ℕ). take n im) (c .before .before .before .before .before .clamp .ensures) ∙ take-min (a .held .size) 32768 im (omega arith) in
+    let t : take (c .before .before .before .before .before .least .result) im ≡ take (a .held .size) im = ap (λ (n : ℕ). take n im) (c .before .before .before .before .before .least .ensures) ∙ take-min (a .held .size) 32768 im (omega arith) in
     let r : length (a .answer .now) ≡ 271 = omega arith in
     does-is (ap (λ (m : Mark). performed m (a .body .now) (a .held .slot) (take (a .held .size) im) 271) (c .before .before .before .enum-told3 .given .1) ∙ ap₂ (λ (b : List ℕ) (n : ℕ). exchange (a .held .slot) b (a .body .now) n) (sym t) (sym r)) (c .message .ensures)
 
@@ -63,7 +63,7 @@ pub perform-spec : {M : Type 1} → statement M
 perform-spec =
     tie.close
     (tie.spec
-    clamp-requires
+    least-requires
     enum-told
     insert-requires
     enum-told-2
