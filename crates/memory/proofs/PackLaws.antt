@@ -1,14 +1,14 @@
 -- Laws of packed bits: eight of them are eight bits of the number that two neighbouring protection bytes make.
-use mathlib.Core.Path.{_≡_, refl, sym, ap, ap₂, _∙_, subst⁻¹}
-use mathlib.Core.List.{List, _∷_}
+use mathlib.Core.Path.{_≡_, sym, ap, ap₂, _∙_, subst⁻¹}
+use mathlib.Core.List.{List}
 use Prim.Native.Nat.{ℕ, zero, suc, _+_, _-_, _*_, _/_, _%_, _^_, _≤_, _<_}
 use native.Mathlib.Nat.{pow-suc, div-div-eq-div-mul, add-zero}
 use native.Mathlib.Numerals.{add-one}
 use native.Mathlib.Omega.{arith}
 use lib.ListN.{length, take, drop}
 use lib.Pow.{mod-pow-add}
-use lib.Seq.{drop-cons}
-use Rattle.words.specs.Bytes.{byte, run}
+use Rattle.words.specs.Bytes.{byte}
+use Rattle.words.proofs.Lists.{run-part}
 use Rattle.card.specs.Protection.{bitOf, protectionBit, packed, packedBytes}
 use Rattle.card.proofs.ProtectionLaws.{bit-covered}
 
@@ -80,19 +80,6 @@ packed-made bits covered image at j h small =
     let q : (at + 8 * j) % 8 ≡ at % 8 = omega arith in
     packed-eight bits covered image (at + 8 * j) h (subst⁻¹ (λ (m : ℕ). byte image m < 256) p small)
     ∙ ap₂ (λ (m s : ℕ). (byte image m + 256 * byte image (m + 1)) / 2 ^ s % 256) p q
-
--- a run that follows a list is that part of the list
-run-part : (f : ℕ → ℕ) (s k n : ℕ) (l : List ℕ) → k + n ≤ length l → ((j : ℕ) → j < n → f (s + j) ≡ byte l (k + j)) → run f s n ≡ take n (drop k l)
-unfolding run
-run-part f s k zero l h e = refl
-run-part f s k (suc n) l h e =
-    let here : f s ≡ byte l k = ap f (sym (add-zero s)) ∙ e 0 (omega arith) ∙ ap (byte l) (add-zero k) in
-    let later : run f (suc s) n ≡ take n (drop (suc k) l) =
-    run-part f (suc s) (suc k) n l (omega arith) (λ j b.
-    let p : suc s + j ≡ s + suc j = omega arith in
-    let q : k + suc j ≡ suc k + j = omega arith in
-    ap f p ∙ e (suc j) (omega arith) ∙ ap (byte l) q) in
-    ap₂ (λ (x : ℕ) (t : List ℕ). x ∷ t) here later ∙ ap (take (suc n)) (sym (drop-cons l k 0 (omega arith)))
 
 -- bits from the first of a protection byte on are the protection bytes themselves
 pub packed-whole : (bits covered : ℕ) (image : List ℕ) (at n : ℕ) → at % 8 ≡ 0 → at + 8 * n ≤ covered → bits + at / 8 + n ≤ length image → ((k : ℕ) → byte image k < 256)

@@ -1,9 +1,8 @@
 -- Laws of raw records: bytes that are blank, a record that was found, a call that is turned down or keeps what came of it, and what is written.
 use mathlib.Core.Path.{_≡_, refl, sym, ap, _∙_, subst⁻¹}
-use Prim.Native.Nat.{ℕ, zero, suc, _+_, _-_, _*_, _≤_, _<_}
+use Prim.Native.Nat.{ℕ, _+_, _-_, _*_, _≤_, _<_}
 use mathlib.Core.Bool.{Bool, true, false, not, false≢true}
 use mathlib.Core.List.{List, [], _∷_, _++_, append-nil}
-use native.Mathlib.Nat.{mul-suc}
 use native.Mathlib.Numerals.{add-one}
 use native.Mathlib.Omega.{arith}
 use lib.ListN.{length, drop, set, replicate, length-drop, length-replicate, replicate-append-replicate, drop-of-length-le}
@@ -12,8 +11,8 @@ use lib.Seq.{drop-cons, sets, sets-eq}
 use borrow.Author.Tests.{eq-eqb, ne-eqb, eqb-true, not-false, ltb-false}
 use Rattle.words.specs.Choice.{_and_, _is_, _isnt_}
 use Rattle.words.specs.Bytes.{byte, fourAt, eightAt}
-use Rattle.words.proofs.Choices.{either, and-fails, and-holds}
-use Rattle.words.proofs.Lists.{over-none, sets-snoc}
+use Rattle.words.proofs.Choices.{either, and-end, and-fails, and-holds}
+use Rattle.words.proofs.Lists.{over-none, sets-snoc, sum-zero}
 use Rattle.slot.specs.declared.Slot.{Slot}
 use Rattle.slot.specs.declared.Holds.{Holds}
 use Rattle.slot.specs.Slots.{removed}
@@ -29,13 +28,6 @@ use Rattle.raw.specs.Raw.{kindOf, stateOf, rawOf, blank, slotFrom, slotW
 blank-step : (l : List ℕ) (i j : ℕ) → j ≡ i + 1 → i < length l → blank (drop i l) ≡ (byte l i is 0 and blank (drop j l))
 unfolding blank
 blank-step l i j e h = rw (drop-cons l i 0 h, e, add-one i)
-
--- a sum is 0 where both its parts are
-sum-zero : (n a b : ℕ) (t : Bool) → 0 < n → (a is 0 and b is 0 and t) ≡ ((a + n * b) is 0 and t)
-unfolding _and_
-sum-zero n zero zero t h = and-holds (eq-eqb (0 + n * 0) 0 (omega arith)) refl
-sum-zero n zero (suc b) t h = sym (and-fails t (ne-eqb (suc b) 0 (λ e. omega arith))) ∙ and-fails t (ne-eqb (0 + n * suc b) 0 (λ e. omega (arith, mul-suc n b)))
-sum-zero n (suc a) b t h = sym (and-fails (b is 0 and t) (ne-eqb (suc a) 0 (λ e. omega arith))) ∙ and-fails t (ne-eqb (suc a + n * b) 0 (λ e. omega arith))
 
 -- so the number in four bytes, or in eight, is 0 where every byte is
 blank-four : (l : List ℕ) (k : ℕ) → k + 4 ≤ length l → blank (drop k l) ≡ (fourAt l k is 0 and blank (drop (k + 4) l))
@@ -68,11 +60,6 @@ eight-zero l k h e = and-holds (eq-eqb (eightAt l k) 0 e) refl ∙ sym (blank-ei
 
 pub eight-more : (l : List ℕ) (k : ℕ) → k + 8 ≤ length l → (eightAt l k ≡ 0 → ⊥) → false ≡ blank (drop k l)
 eight-more l k h e = and-fails (blank (drop (k + 8) l)) (ne-eqb (eightAt l k) 0 e) ∙ sym (blank-eight l k h)
-
-and-end : (b : Bool) → b and true ≡ b
-unfolding _and_
-and-end true = refl
-and-end false = refl
 
 -- the last four of 32 bytes, the first of which was seen to be 00h
 pub blank-last : (l : List ℕ) → length l ≡ 32 → eightAt l 21 ≡ 0 → fourAt l 28 is 0 ≡ blank (drop 29 l)

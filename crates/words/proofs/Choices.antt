@@ -84,6 +84,11 @@ unfolding _means_
 meaning true h = h refl
 meaning false h = refl
 
+pub and-end : (b : Bool) → b and true ≡ b
+unfolding _and_
+and-end true = refl
+and-end false = refl
+
 -- A return meets a list of tests where one fails, or where one holds and it meets the rest.
 pub and-fails : {a : Bool} (b : Bool) → a ≡ false → false ≡ (a and b)
 unfolding _and_

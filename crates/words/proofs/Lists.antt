@@ -1,20 +1,20 @@
 -- Laws of lists: bytes over a buffer, a run, a part that was lent and came back, stores that miss a place.
-use mathlib.Core.Path.{_≡_, refl, sym, ap, _∙_}
+use mathlib.Core.Path.{_≡_, refl, sym, ap, ap₂, _∙_}
 use mathlib.Core.List.{List, [], _∷_, _++_, append-assoc, append-nil}
 use mathlib.Core.Bool.{Bool, true, false}
 use mathlib.Core.Logic.{_⊎_, inl, inr}
-use Prim.Native.Nat.{ℕ, zero, suc, _+_, _-_, _≤_, _<_, min}
-use native.Mathlib.Nat.{zero-add, not-suc-le-zero, le-of-suc-le-suc, add-suc, suc-add, add-zero}
+use Prim.Native.Nat.{ℕ, zero, suc, _+_, _-_, _*_, _≤_, _<_, min}
+use native.Mathlib.Nat.{zero-add, not-suc-le-zero, le-of-suc-le-suc, add-suc, suc-add, add-zero, mul-suc}
 use native.Mathlib.Numerals.{add-one}
 use native.Mathlib.Omega.{arith}
 use lib.ListN.{length, take, drop, set, getD, length-append, length-drop, drop-of-length-le, take-append-drop}
 use lib.Seq.{length-take-le, set-at, drop-cons, drop-drop, drop-at, append-snoc, take-at, take-all, take-append-seam, drop-set-lt, sets, getD-set-other}
 use lib.Dec.{ltb}
 use borrow.Rule.Slice.PartMut.{putMid}
-use borrow.Author.Tests.{eq-eqb, eqb-true, ltb-true, ltb-false}
+use borrow.Author.Tests.{eq-eqb, ne-eqb, eqb-true, ltb-true, ltb-false}
 use Rattle.words.specs.Choice.{_and_, _is_}
 use Rattle.words.specs.Bytes.{byte, same, fourAt, over, run}
-use Rattle.words.proofs.Choices.{and-holds, and-true}
+use Rattle.words.proofs.Choices.{and-fails, and-holds, and-true}
 
 -- ---- bytes over a buffer
 -- a loop that copies from the front: one turn
@@ -110,6 +110,19 @@ run-more f k n d h =
 pub run-next : (f : ℕ → ℕ) (n : ℕ) (d : List ℕ) → n < length d → set (over (run f 0 n) d) n (f n) ≡ over (run f 0 (n + 1)) d
 run-next f n d h = ap (λ (m : ℕ). set (over (run f 0 n) d) n (f m)) (sym (zero-add n)) ∙ run-more f 0 n d h
 
+-- a run that follows a list is that part of the list
+pub run-part : (f : ℕ → ℕ) (s k n : ℕ) (l : List ℕ) → k + n ≤ length l → ((j : ℕ) → j < n → f (s + j) ≡ byte l (k + j)) → run f s n ≡ take n (drop k l)
+unfolding run
+run-part f s k zero l h e = refl
+run-part f s k (suc n) l h e =
+    let here : f s ≡ byte l k = ap f (sym (add-zero s)) ∙ e 0 (omega arith) ∙ ap (byte l) (add-zero k) in
+    let later : run f (suc s) n ≡ take n (drop (suc k) l) =
+    run-part f (suc s) (suc k) n l (omega arith) (λ j b.
+    let p : suc s + j ≡ s + suc j = omega arith in
+    let q : k + suc j ≡ suc k + j = omega arith in
+    ap f p ∙ e (suc j) (omega arith) ∙ ap (byte l) q) in
+    ap₂ (λ (x : ℕ) (t : List ℕ). x ∷ t) here later ∙ ap (take (suc n)) (sym (drop-cons l k 0 (omega arith)))
+
 -- ---- the tail `&s[k..]`, as the borrow checker has it: `take (length s - k) (drop k s)`
 pub tail-is : (k : ℕ) (a : List ℕ) → take (length a - k) (drop k a) ≡ drop k a
 tail-is k a = take-all (length a - k) (drop k a) (omega (arith, length-drop k a))
@@ -199,3 +212,10 @@ first-four (a ∷ b ∷ c ∷ d ∷ l) h = refl
 pub four-fits : (l : List ℕ) (k : ℕ) → ((i : ℕ) → byte l i < 256) → fourAt l k < 4294967296
 unfolding fourAt
 four-fits l k h = omega (arith, h k, h (k + 1), h (k + 2), h (k + 3))
+
+-- a sum is 0 where both its parts are
+pub sum-zero : (n a b : ℕ) (t : Bool) → 0 < n → (a is 0 and b is 0 and t) ≡ ((a + n * b) is 0 and t)
+unfolding _and_
+sum-zero n zero zero t h = and-holds (eq-eqb (0 + n * 0) 0 (omega arith)) refl
+sum-zero n zero (suc b) t h = sym (and-fails t (ne-eqb (suc b) 0 (λ e. omega arith))) ∙ and-fails t (ne-eqb (0 + n * suc b) 0 (λ e. omega (arith, mul-suc n b)))
+sum-zero n (suc a) b t h = sym (and-fails (b is 0 and t) (ne-eqb (suc a) 0 (λ e. omega arith))) ∙ and-fails t (ne-eqb (suc a + n * b) 0 (λ e. omega arith))
