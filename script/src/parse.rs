@@ -390,3 +390,6 @@ fn at_most(body: Vec<u8>) -> Result<Vec<u8>, String> {
     }
     Ok(body)
 }
+
+#[cfg(test)]
+mod tests;

@@ -110,13 +110,13 @@ pub fn answer(message: &[u8], answer: &[u8]) -> Vec<(&'static str, String)> {
         ("answer", first),
         ("status", format!("{:02X} {}, {}, error {:02X} {}", status, outcome, state, error, error_name(failed, error))),
     ];
-    let data = &answer[10..];
+    let (apdu, data) = (message.get(10..).unwrap_or_default(), &answer[10..]);
     if message.first() == Some(&0x6f) && !failed && data.len() >= 2 {
         let (data, word) = data.split_at(data.len() - 2);
         if !data.is_empty() {
-            parts.push(("data", told_data(&message[10..], data)));
+            parts.push(("data", told_data(apdu, data)));
         }
-        parts.push(("word", format!("{} {}", row(word), told_word(&message[10..], word))));
+        parts.push(("word", format!("{} {}", row(word), told_word(apdu, word))));
     } else if !data.is_empty() {
         let what = if message.first() == Some(&0x62) { ", the answer to reset" } else { "" };
         parts.push(("data", format!("{}{}", row(data), what)));
@@ -139,10 +139,10 @@ fn error_name(failed: bool, error: u8) -> &'static str {
 }
 
 fn told_data(apdu: &[u8], data: &[u8]) -> String {
-    match apdu.get(1) {
-        Some(0xb1) => format!("{}, counter {:02X}: {}", row(data), data[0], tries(data[0])),
-        Some(0xb2) => {
-            let from = usize::from(u16::from_be_bytes([apdu[2], apdu[3]]));
+    match apdu {
+        [_, 0xb1, ..] => format!("{}, counter {:02X}: {}", row(data), data[0], tries(data[0])),
+        [_, 0xb2, high, low, ..] => {
+            let from = usize::from(u16::from_be_bytes([*high, *low]));
             let mut runs: Vec<(usize, usize)> = Vec::new();
             for k in (0..8 * data.len()).filter(|k| data[k / 8] & (1 << (k % 8)) == 0) {
                 match runs.last_mut() {
@@ -150,22 +150,19 @@ fn told_data(apdu: &[u8], data: &[u8]) -> String {
                     _ => runs.push((from + k, from + k)),
                 }
             }
-            let named: Vec<String> = runs
-                .iter()
-                .map(
-                    |&(first, last)| {
-                        if first == last {
-                            format!("{:04X}", first)
-                        } else {
-                            format!("{:04X}..{:04X}", first, last)
-                        }
-                    },
-                )
-                .collect();
+            let named: Vec<String> = runs.iter().map(told_run).collect();
             let which = if named.is_empty() { "none".to_string() } else { named.join(" ") };
             format!("{}, protected: {}", row(data), which)
         }
         _ => row(data),
+    }
+}
+
+fn told_run(&(first, last): &(usize, usize)) -> String {
+    if first == last {
+        format!("{:04X}", first)
+    } else {
+        format!("{:04X}..{:04X}", first, last)
     }
 }
 
@@ -199,3 +196,6 @@ fn told_word(apdu: &[u8], word: &[u8]) -> String {
     };
     text.to_string()
 }
+
+#[cfg(test)]
+mod tests;

@@ -156,7 +156,7 @@ impl Count {
                     self.add(format!("{}: 20 wrong closes an open card", on));
                 }
             }
-            (0xd0 | 0xd1 | 0xd2, 0x6982) => {
+            (0xd0..=0xd2, 0x6982) => {
                 self.add(format!("{}: {:02X}: 6982 {}", on, ins, if before.open { "protected" } else { "closed" }));
             }
             _ => self.add(format!("{}: {:02X}: {:04X}", on, ins, word)),

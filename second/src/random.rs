@@ -91,7 +91,7 @@ const KINDS: [(usize, u8); 11] =
 
 impl Maker {
     fn new(rng: Rng) -> Maker {
-        Maker { rng, reader: Reader::new(), seq: 0, last: Vec::new() }
+        Maker { rng, reader: Reader::empty(), seq: 0, last: Vec::new() }
     }
 
     /// The card in the slot.

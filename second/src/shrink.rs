@@ -289,3 +289,47 @@ pub fn dump(bytes: &[u8]) -> String {
     }
     text
 }
+
+#[cfg(test)]
+mod tests {
+    use super::*;
+
+    /// Two messages of many that a test holds of: only they are left, as short and low as it allows.
+    #[test]
+    fn only_what_the_test_needs_is_left() {
+        let status = Record::Message(vec![0x65, 0, 0, 0, 0, 0, 9, 7, 7, 7]);
+        let long = Record::Message([&[0x6f, 50, 0, 0, 0, 0, 9, 0, 0, 0][..], &[0xaa; 50]].concat());
+        let mut parts = vec![status.clone(), long, Record::Remove, status];
+        parts.extend(vec![Record::Insert(vec![30; 20]); 40]);
+        let transfer =
+            |part: &Record| matches!(part, Record::Message(body) if body.starts_with(&[0x6f]) && body.len() > 12);
+        let mut holds =
+            |parts: &[Record]| parts.iter().any(|part| matches!(part, Record::Remove)) && parts.iter().any(transfer);
+        let left = shrink(parts, &mut holds);
+        let bytes: Vec<Vec<u8>> = left.iter().map(Record::bytes).collect();
+        let message = vec![0x4f, 0x4d, 13, 0, 0x6f, 3, 0, 0, 0, 0, 0, 0, 0, 0, 0, 0, 0];
+        assert_eq!(bytes, [message, vec![0x43, 0x4f, 0, 0]]);
+    }
+
+    #[test]
+    fn long_runs_are_shortened() {
+        let run = "ab".repeat(16);
+        assert_eq!(
+            shortened(&format!("msg 0 01{}02 {}", run, "cd".repeat(15))),
+            format!("msg 0 01[ab*16]02 {}", "cd".repeat(15))
+        );
+    }
+
+    #[test]
+    fn rows_that_repeat_are_a_star() {
+        let bytes = [vec![1; 16], vec![0; 48], vec![2; 3]].concat();
+        let row = |byte: &str, count: usize| vec![byte; count].join(" ");
+        let rows = [
+            format!("    00000  {}", row("01", 16)),
+            format!("    00010  {}", row("00", 16)),
+            "    *".to_string(),
+            format!("    00040  {}", row("02", 3)),
+        ];
+        assert_eq!(dump(&bytes), rows.join("\n") + "\n");
+    }
+}

@@ -16,7 +16,8 @@ pub struct Reader {
 }
 
 impl Reader {
-    pub fn new() -> Reader {
+    /// The empty sound slot, as a session starts.
+    pub fn empty() -> Reader {
         Reader { slot: Slot::empty(), image: Vec::new() }
     }
 

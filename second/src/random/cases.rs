@@ -83,7 +83,7 @@ fn raw(slot: &Slot) -> [u8; RECORD] {
 impl Maker {
     /// A sound slot with a card, or now and then without, far along.
     fn any_state(&mut self) {
-        self.reader = Reader::new();
+        self.reader = Reader::empty();
         if self.rng.chance(6) {
             return;
         }

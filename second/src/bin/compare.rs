@@ -17,7 +17,7 @@ use std::time::{Duration, Instant};
 const MOST_IN_STREAM: usize = 1000;
 const FEWEST_STREAMS: usize = 40;
 
-const DIFFERENCE: &str = "target/second/difference.bin";
+const DIFFERENCE: &str = "target/difference.bin";
 
 struct Wanted {
     trial: bool,

@@ -1,7 +1,5 @@
 //! The second program's own tests: answers worked out by hand from the paper.
 
-#![cfg(test)]
-
 use second::case::Case;
 use second::reader::{self, Slot};
 use second::step::{Reader, INSERT, MESSAGE, REMOVE};
@@ -11,7 +9,7 @@ struct Host(Reader);
 
 impl Host {
     fn new() -> Host {
-        Host(Reader::new())
+        Host(Reader::empty())
     }
 
     /// A card that went in, is powered and has its type selected.
@@ -556,7 +554,7 @@ fn insertions() {
 
 #[test]
 fn records_that_end_the_session() {
-    let mut reader = Reader::new();
+    let mut reader = Reader::empty();
     assert!(reader.record(REMOVE, &[0]).is_none());
     assert!(reader.record([0x43, 0x4d], &[]).is_none());
     assert!(reader.record(MESSAGE, &[0; 32770]).is_none());

@@ -7,7 +7,7 @@ use std::io::{self, Read, Write};
 fn main() -> io::Result<()> {
     let mut input = io::stdin().lock();
     let mut output = io::stdout().lock();
-    let mut reader = Reader::new();
+    let mut reader = Reader::empty();
     let mut body = Vec::with_capacity(LONGEST_BODY);
     loop {
         let mut header = [0; 4];

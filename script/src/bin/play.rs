@@ -1,19 +1,13 @@
 //! Runs a script of a session: turns it into records, converses with the session program and
 //! prints each answer taken apart.
 
-mod cards;
-mod parse;
-mod tell;
-
-use parse::{Expected, Record, Step};
+use script::parse::{self, Record, Step};
+use script::talk::{Heard, Session};
 use std::env;
 use std::fs;
-use std::io::{self, BufRead, BufReader, Write};
+use std::io::{self, Write};
 use std::path::{Path, PathBuf};
-use std::process::{self, Child, ChildStdin, Command, ExitCode, Stdio};
-use std::sync::mpsc::{self, Receiver};
-use std::thread;
-use std::time::Duration;
+use std::process::{self, ExitCode};
 
 /// Prints a line, and ends the program where nobody reads it any more.
 macro_rules! say {
@@ -23,9 +17,6 @@ macro_rules! say {
         }
     };
 }
-
-/// A line that takes longer does not come.
-const PATIENCE: Duration = Duration::from_secs(60);
 
 fn main() -> ExitCode {
     let words: Vec<String> = env::args().skip(1).collect();
@@ -130,7 +121,7 @@ struct Run {
 fn run(root: &Path, file: &str, steps: &[Step], told: bool) -> Result<Run, String> {
     let mut session = Session::start(root)?;
     let mut run = Run { lines: Vec::new(), expectations: 0, failures: Vec::new() };
-    let mut last = Heard { message: Vec::new(), line: String::new() };
+    let mut last = Heard::default();
     if told {
         say!("{}", file);
     }
@@ -143,7 +134,9 @@ fn run(root: &Path, file: &str, steps: &[Step], told: bool) -> Result<Run, Strin
                 run.lines.push(last.line.clone());
                 if told {
                     say!("\n{:>4}  {}", line, cut(source));
-                    last.tell(record);
+                    for (name, text) in last.told(record) {
+                        say!("        {:<8}{}", name, text);
+                    }
                 }
             }
             Step::Expect { line, source, expected } => {
@@ -177,147 +170,6 @@ fn cut(text: &str) -> String {
     }
 }
 
-/// A session program at the other end of two pipes.
-struct Session {
-    child: Child,
-    input: Option<ChildStdin>,
-    lines: Receiver<String>,
-    name: String,
-}
-
-impl Session {
-    /// SESSION_PROGRAM is run in the repository's folder.
-    fn start(root: &Path) -> Result<Session, String> {
-        let name = env::var("SESSION_PROGRAM").unwrap_or_else(|_| "tools/run-x86 target/bin/session".to_string());
-        let words: Vec<&str> = name.split_whitespace().collect();
-        let (program, arguments) = words.split_first().ok_or("SESSION_PROGRAM names no program")?;
-        let path = if program.contains('/') { root.join(program) } else { PathBuf::from(program) };
-        let mut child = Command::new(path)
-            .args(arguments)
-            .current_dir(root)
-            .stdin(Stdio::piped())
-            .stdout(Stdio::piped())
-            .spawn()
-            .map_err(|error| format!("cannot run {}: {}", name, error))?;
-        let (input, output) = (child.stdin.take(), child.stdout.take());
-        let (sender, lines) = mpsc::channel();
-        thread::spawn(move || {
-            if let Some(output) = output {
-                for line in BufReader::new(output).lines().map_while(Result::ok) {
-                    if sender.send(line).is_err() {
-                        break;
-                    }
-                }
-            }
-        });
-        Ok(Session { child, input, lines, name })
-    }
-
-    /// Writes a record and waits for its line.
-    fn answer(&mut self, record: &Record) -> Result<Heard, String> {
-        if let Some(input) = &mut self.input {
-            // A program that has stopped is known by the line that does not come.
-            let _ = input.write_all(&record.bytes()).and_then(|()| input.flush());
-        }
-        if matches!(record, Record::Loose(_)) {
-            self.input = None;
-        }
-        match self.lines.recv_timeout(PATIENCE) {
-            Ok(line) => {
-                let message = match record {
-                    Record::Message(message) => message.clone(),
-                    _ => Vec::new(),
-                };
-                Ok(Heard { message, line })
-            }
-            Err(_) => {
-                let _ = self.child.kill();
-                let _ = self.child.wait();
-                Err(format!("{} printed no line for this record", self.name))
-            }
-        }
-    }
-
-    /// Ends the input; a line that still comes.
-    fn end(mut self) -> Option<String> {
-        self.input = None;
-        let line = self.lines.recv_timeout(PATIENCE).ok();
-        if line.is_some() {
-            let _ = self.child.kill();
-        }
-        let _ = self.child.wait();
-        line
-    }
-}
-
-/// A line of the session program, and the message that it answers.
-struct Heard {
-    message: Vec<u8>,
-    line: String,
-}
-
-impl Heard {
-    /// The number that the line has.
-    fn number(&self) -> Option<u8> {
-        self.line.split(' ').nth(1)?.parse().ok()
-    }
-
-    fn answer(&self) -> Option<Vec<u8>> {
-        let digits = self.line.strip_prefix("msg 0 ")?;
-        if digits.len() % 2 != 0 || !digits.is_ascii() {
-            return None;
-        }
-        let bytes: Option<Vec<u8>> =
-            (0..digits.len() / 2).map(|k| u8::from_str_radix(&digits[2 * k..2 * k + 2], 16).ok()).collect();
-        bytes.filter(|bytes| bytes.len() >= 10)
-    }
-
-    /// The data of an answer that did not fail.
-    fn data(&self) -> Option<Vec<u8>> {
-        self.answer().filter(|answer| answer[7] & 0x40 == 0).map(|answer| answer[10..].to_vec())
-    }
-
-    fn meets(&self, expected: &Expected) -> bool {
-        match expected {
-            Expected::Data(bytes) => self.data().as_ref() == Some(bytes),
-            Expected::DataEnd(bytes) => self.data().map_or(false, |data| data.ends_with(bytes)),
-            Expected::Nothing => self.data() == Some(Vec::new()),
-            Expected::Error(code) => self.answer().map_or(false, |answer| answer[7] & 0x40 != 0 && answer[8] == *code),
-            Expected::State(state) => self.answer().map_or(false, |answer| answer[7] & 0x3f == *state),
-            Expected::Answer(bytes) => self.answer().as_ref() == Some(bytes),
-            Expected::Refused(number) => {
-                self.line == format!("msg {}", number) || self.line == format!("in {}", number)
-            }
-            Expected::Done => self.line == "in 0" || self.line == "out 0",
-            Expected::Bad => self.line == "bad",
-            Expected::Line(line) => self.line == *line,
-        }
-    }
-
-    fn tell(&self, record: &Record) {
-        let part = |name: &str, text: &str| say!("        {:<8}{}", name, text);
-        match record {
-            Record::Insert { told, .. } => part("sent", &format!("insert: {}", told)),
-            Record::Remove => part("sent", "remove"),
-            Record::Message(message) => part("sent", &tell::message(message)),
-            Record::Loose(bytes) => {
-                part("sent", &format!("these bytes, and the end of the input: {}", tell::row(bytes)))
-            }
-        }
-        match (self.answer(), self.number()) {
-            (Some(answer), _) => {
-                for (name, text) in tell::answer(&self.message, &answer) {
-                    part(name, &text);
-                }
-            }
-            (None, Some(0)) if self.line == "in 0" => part("line", "in 0, the card is in"),
-            (None, Some(0)) if self.line == "out 0" => part("line", "out 0, the slot is empty"),
-            (None, Some(number)) => part("line", &format!("{}, turned down: {}", self.line, tell::refusal(number))),
-            (None, None) => part("line", &format!("{}, and the session ends", self.line)),
-        }
-    }
-}
-
 // ---- checking
 
 /// Holds each script to the files beside it: its records, and the lines that the session program
@@ -342,13 +194,13 @@ fn check_all(root: &Path, files: &[&str]) -> Result<bool, String> {
 }
 
 fn check(root: &Path, file: &str, steps: &[Step]) -> Result<String, String> {
-    let beside = |extension: &str| {
+    let kept = |extension: &str| {
         let path = Path::new(file).with_extension(extension);
         fs::read_to_string(&path).map_err(|error| format!("{}: {}", path.display(), error))
     };
-    same("record", &beside("records")?, &record_lines(steps))?;
+    same("record", &kept("records")?, &record_lines(steps))?;
     let run = run(root, file, steps, false)?;
-    same("line", &beside("expected")?, &joined(&run.lines))?;
+    same("line", &kept("expected")?, &joined(&run.lines))?;
     match run.failures.first() {
         Some(failure) => Err(failure.clone()),
         None => Ok(format!("{} records, {} expectations", run.lines.len(), run.expectations)),
@@ -362,5 +214,5 @@ fn same(what: &str, wanted: &str, given: &str) -> Result<(), String> {
     let (wanted, given): (Vec<&str>, Vec<&str>) = (wanted.lines().collect(), given.lines().collect());
     let at = wanted.iter().zip(&given).take_while(|(one, two)| one == two).count();
     let shown = |lines: &[&str]| lines.get(at).map_or("nothing".to_string(), |line| format!("'{}'", cut(line)));
-    Err(format!("{} {} is {}, and the file beside has {}", what, at + 1, shown(&given), shown(&wanted)))
+    Err(format!("{} {} is {}, and {} is expected", what, at + 1, shown(&given), shown(&wanted)))
 }

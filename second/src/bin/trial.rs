@@ -1,23 +1,25 @@
-//! The trial program: cases from standard input, a line each on standard output. A case is a raw
-//! slot record (32 bytes), the answer buffer's length (2 bytes, low first), the byte it is filled
-//! with, the message's length (2, low first), the image's length (4, low first), message, image.
+//! The trial program: cases from standard input, a line each on standard output, as soon as the
+//! case is done. A case is a raw slot record (32 bytes), the answer buffer's length (2 bytes, low
+//! first), the byte it is filled with, the message's length (2, low first), the image's length (4,
+//! low first), message, image.
 
 use second::case::{Case, HEADER, LONGEST_BUFFER, LONGEST_IMAGE, LONGEST_MESSAGE, RECORD};
-use std::io::{self, BufWriter, Read, Write};
+use std::io::{self, Read, Write};
 
 fn main() -> io::Result<()> {
     let mut input = io::stdin().lock();
-    let mut output = BufWriter::new(io::stdout().lock());
+    let mut output = io::stdout().lock();
     while let Some(case) = next(&mut input)? {
-        match case {
+        match &case {
             Ok(case) => writeln!(output, "{}", case.line())?,
-            Err(Bad) => {
-                writeln!(output, "bad")?;
-                break;
-            }
+            Err(Bad) => writeln!(output, "bad")?,
+        }
+        output.flush()?;
+        if case.is_err() {
+            break;
         }
     }
-    output.flush()
+    Ok(())
 }
 
 /// A case that is cut or over a limit.

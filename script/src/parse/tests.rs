@@ -1,0 +1,178 @@
+use super::*;
+
+/// The records of a script, as they stand on the session program's input.
+fn records(text: &str) -> Vec<Vec<u8>> {
+    match script(text) {
+        Ok(steps) => steps
+            .iter()
+            .filter_map(|step| match step {
+                Step::Record { record, .. } => Some(record.bytes()),
+                _ => None,
+            })
+            .collect(),
+        Err(fault) => panic!("line {}: {}", fault.line, fault.text),
+    }
+}
+
+/// The body of the one record of a script.
+fn body(text: &str) -> Vec<u8> {
+    let records = records(text);
+    assert_eq!(records.len(), 1, "{}", text);
+    let length = usize::from(u16::from_le_bytes([records[0][2], records[0][3]]));
+    assert_eq!(records[0].len(), 4 + length);
+    records[0][4..].to_vec()
+}
+
+fn image(line: &str) -> Vec<u8> {
+    body(line)[1..].to_vec()
+}
+
+fn fault(text: &str) -> (usize, String) {
+    match script(text) {
+        Ok(_) => panic!("'{}' has no fault", text),
+        Err(fault) => (fault.line, fault.text),
+    }
+}
+
+fn bytes(text: &str) -> Vec<u8> {
+    all_bytes(&text.split_whitespace().collect::<Vec<_>>()).unwrap()
+}
+
+#[test]
+fn the_session_of_the_paper() {
+    let text = "seq 07\nstatus\nremove\nraw 65";
+    assert_eq!(
+        records(text),
+        [bytes("4F 4D 0A 00 65 00 00 00 00 00 07 00 00 00"), bytes("43 4F 00 00"), bytes("4F 4D 01 00 65")]
+    );
+}
+
+#[test]
+fn messages() {
+    let text = "power on\npower off\nstatus\nselect 06\npage 05\nsend FF B0 00 00 04\nsend";
+    let wanted = [
+        "62 00000000 00 00 000000",
+        "63 00000000 00 01 000000",
+        "65 00000000 00 02 000000",
+        "6F 06000000 00 03 000000 FF A4 00 00 01 06",
+        "6F 06000000 00 04 000000 FF 01 00 00 01 05",
+        "6F 05000000 00 05 000000 FF B0 00 00 04",
+        "6F 00000000 00 06 000000",
+    ];
+    for (record, wanted) in records(text).iter().zip(wanted) {
+        assert_eq!(record[..2], [0x4f, 0x4d]);
+        assert_eq!(record[4..], bytes(wanted));
+    }
+    assert_eq!(records(text).len(), wanted.len());
+}
+
+#[test]
+fn sequence_and_slot() {
+    let text = "status\nraw 65\nstatus\nseq FE\nslot 05\nstatus\nstatus\nstatus";
+    let named: Vec<Vec<u8>> =
+        records(text).iter().filter(|record| record.len() == 14).map(|record| record[9..11].to_vec()).collect();
+    // Slot, then sequence: `raw` counts for nothing, and after FFh comes 00h.
+    assert_eq!(named, [[0, 0], [0, 1], [5, 0xfe], [0, 0xff], [0, 0]]);
+}
+
+#[test]
+fn select_alone_takes_the_type_of_the_last_card() {
+    for (card, own) in [("i2c1", 1), ("i2c16", 1), ("i2c32", 2), ("i2c256", 2), ("sle4428", 5), ("sle4442", 6)] {
+        let records = records(&format!("insert i2c64\ninsert {}\nselect", card));
+        assert_eq!(records[2].last(), Some(&own), "{}", card);
+    }
+    assert_eq!(fault("select"), (1, "'select' alone needs an insert of a card before it".to_string()));
+}
+
+#[test]
+fn cards_by_name_and_by_number() {
+    let cards = [
+        ("i2c1", 1, 128),
+        ("i2c2", 2, 256),
+        ("i2c4", 3, 512),
+        ("i2c8", 4, 1024),
+        ("i2c16", 5, 2048),
+        ("i2c32", 6, 4096),
+        ("i2c64", 7, 8192),
+        ("i2c128", 8, 16384),
+        ("i2c256", 9, 32768),
+        ("sle4428", 20, 1152),
+        ("sle4442", 30, 264),
+    ];
+    for (name, number, length) in cards {
+        let inserted = body(&format!("insert {}", name));
+        assert_eq!((inserted[0], inserted.len()), (number, 1 + length), "{}", name);
+        assert_eq!(inserted, body(&format!("insert kind {}", number)));
+    }
+    assert_eq!(body("insert nothing"), []);
+    assert_eq!(body("insert kind 77"), [77]);
+    assert_eq!(body("insert kind 0 image 01 02*3"), [0, 1, 2, 2, 2]);
+}
+
+#[test]
+fn images() {
+    let plain = image("insert sle4442");
+    assert_eq!(plain[..260], [0xff; 260]);
+    assert_eq!(plain[260..], [0x07, 0xff, 0xff, 0xff]);
+    let card =
+        image("insert sle4442 fill 11 memory A2 13 at 00FF 77 counter 05 code 112233 protected 0000..0002,0009,001F");
+    assert_eq!(card[..4], [0xa2, 0x13, 0x11, 0x11]);
+    assert_eq!(card[254..], [0x11, 0x77, 0xf8, 0xfd, 0xff, 0x7f, 0x05, 0x11, 0x22, 0x33]);
+    let card = image("insert sle4428 fill 00 counter FE code AABB protected 03FD");
+    assert_eq!(card[0x3fc..0x400], [0x00, 0xfe, 0xaa, 0xbb]);
+    assert_eq!(card[0x400..0x47f], [0xff; 127]);
+    assert_eq!(card[0x47f], 0xdf);
+    assert_eq!(image("insert i2c1 fill 5A short 3"), [0x5a; 125]);
+    assert_eq!(image("insert i2c1 fill 5A long 2")[126..], [0x5a, 0x5a, 0, 0]);
+    assert_eq!(image("insert sle4442 fill 00 image 01 02"), [1, 2]);
+}
+
+#[test]
+fn bytes_as_they_stand_end_the_input() {
+    assert_eq!(records("bytes 4F 4D 0A"), [[0x4f, 0x4d, 0x0a]]);
+    assert_eq!(fault("bytes 4F\nstatus"), (2, "the input has ended with 'bytes'".to_string()));
+}
+
+#[test]
+fn hex_and_comments() {
+    let text = "send FFB0 0000*2 04 # and so on\n\n   # nothing\nsay # stays in a text";
+    assert_eq!(fault(text), (1, "'0000*2' is not bytes in hex".to_string()));
+    assert_eq!(records("send FFB0 00*2 04 # and so on")[0][14..], [0xff, 0xb0, 0, 0, 4]);
+    match script("say a # b").ok().and_then(|steps| steps.into_iter().next()) {
+        Some(Step::Say(text)) => assert_eq!(text, "a # b"),
+        _ => panic!("say says something"),
+    }
+}
+
+#[test]
+fn faults_name_their_line() {
+    for (line, text) in [
+        ("sing", "'sing' is no word of the language (docs/SCRIPTS.md has it)"),
+        ("power", "it is 'power on' or 'power off'"),
+        ("status now", "'now' is too much"),
+        ("seq 1", "'1' is not bytes in hex"),
+        ("seq 01 02", "'seq' takes one byte in hex"),
+        ("insert", "insert what? A card as sle4442, or 'nothing'"),
+        ("insert sle4443", "'sle4443' is no card"),
+        ("insert kind 256", "'256' is no kind from 0 to 255"),
+        ("insert kind 77 fill 00", "an unknown kind has the option 'image' alone"),
+        ("insert i2c1 page 8", "'page' is no option of insert"),
+        ("insert i2c1 counter 07", "I2C of 1 kbit has no counter, no code and no protection bits"),
+        ("insert sle4442 code 1122", "the code of SLE4442 has 3 bytes, and these are 2"),
+        ("insert sle4442 code", "bytes in hex are missing after 'code'"),
+        ("insert sle4442 counter", "something is missing after 'counter'"),
+        ("insert sle4442 at 00FF 01 02", "memory bytes at 00FF pass the 256 bytes of SLE4442"),
+        ("insert sle4442 at 12345 01", "'12345' is no address in hex"),
+        ("insert sle4442 protected 0020", "byte 0020 of SLE4442 has no protection bit"),
+        ("insert sle4442 short 265", "the image has only 264 bytes"),
+        ("insert i2c1 long 70001", "'70001' is no number of bytes"),
+        ("raw 00*65536", "a record holds at most 65535 bytes, and these are 65536"),
+        ("expect 90 00", "there is no answer to expect anything of yet"),
+        ("remove\nexpect", "expect what?"),
+        ("remove\nexpect ..", "expect which bytes?"),
+        ("remove\nexpect refused 6", "'6' is no number from 1 to 5"),
+        ("remove\nexpect error", "'expect error' takes one byte in hex"),
+    ] {
+        assert_eq!(fault(&format!("# first\n{}", line)), (1 + line.lines().count(), text.to_string()), "{}", line);
+    }
+}

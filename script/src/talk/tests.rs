@@ -1,0 +1,67 @@
+use super::*;
+
+fn heard(line: &str) -> Heard {
+    Heard { message: Vec::new(), line: line.to_string() }
+}
+
+/// Each expectation, a line that meets it and lines that do not.
+#[test]
+fn expectations() {
+    let read = "msg 0 80030000000009000000a29000";
+    let mute = "msg 0 8000000000000942fe00";
+    let done = "msg 0 81000000000009000000";
+    let all = [
+        (Expected::Data(vec![0xa2, 0x90, 0x00]), read, vec![done, mute, "msg 0 80030000000009000000a29001", "bad"]),
+        (Expected::DataEnd(vec![0x90, 0x00]), read, vec![done, mute, "msg 0 80030000000009000000a29001"]),
+        (Expected::Nothing, done, vec![read, mute, "msg 2"]),
+        (Expected::Error(0xfe), mute, vec![done, read, "msg 0 80000000000009420100", "msg 2"]),
+        (Expected::State(0), read, vec![mute, "msg 0 81000000000009010001", "in 0"]),
+        (Expected::State(1), "msg 0 81000000000009010001", vec![done, mute]),
+        (Expected::State(2), mute, vec![done, read]),
+        (Expected::Answer(vec![0x81, 0, 0, 0, 0, 0, 9, 0, 0, 0]), done, vec![read, "msg 0 81000000000009000001"]),
+        (Expected::Refused(2), "msg 2", vec!["msg 3", "in 3", "msg 0", read, "bad"]),
+        (Expected::Refused(5), "in 5", vec!["in 3", "in 0", "msg 2"]),
+        (Expected::Done, "in 0", vec!["in 3", "bad", read]),
+        (Expected::Done, "out 0", vec!["out 1", "msg 0"]),
+        (Expected::Bad, "bad", vec!["in 0", "bad ", ""]),
+        (Expected::Line("msg 2".to_string()), "msg 2", vec!["msg 3", "msg 2 "]),
+    ];
+    for (expected, met, unmet) in &all {
+        assert!(heard(met).meets(expected), "{}", met);
+        for line in unmet {
+            assert!(!heard(line).meets(expected), "{} is not {}", line, met);
+        }
+    }
+}
+
+/// An answer that is cut or is no hex meets nothing.
+#[test]
+fn lines_that_are_no_answers() {
+    for line in
+        ["msg 0 8", "msg 0 zz000000000000000000", "msg 0 800000", "msg 0 é000000000000000000", "msg 0 ", "msg", ""]
+    {
+        assert!(!heard(line).meets(&Expected::Nothing), "{}", line);
+        assert!(!heard(line).meets(&Expected::State(0)), "{}", line);
+    }
+}
+
+#[test]
+fn lines_in_words() {
+    for (record, line, text) in [
+        (Record::Remove, "out 0", "out 0, the slot is empty"),
+        (Record::Remove, "bad", "bad, and the session ends"),
+        (Record::Message(vec![0x65]), "msg 2", "msg 2, turned down: the message is under 10 bytes"),
+        (Record::Insert { told: "a card".to_string(), body: vec![1] }, "in 0", "in 0, the card is in"),
+        (
+            Record::Insert { told: "a card".to_string(), body: vec![1] },
+            "in 5",
+            "in 5, turned down: a card is in already",
+        ),
+        (Record::Loose(vec![0x4f]), "bad", "bad, and the session ends"),
+    ] {
+        let parts = heard(line).told(&record);
+        assert_eq!(parts.len(), 2);
+        assert_eq!(parts[0].0, "sent");
+        assert_eq!(parts[1], ("line", text.to_string()));
+    }
+}

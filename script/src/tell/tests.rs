@@ -1,0 +1,139 @@
+use super::*;
+
+fn bytes(text: &str) -> Vec<u8> {
+    let digits: String = text.split_whitespace().collect();
+    (0..digits.len() / 2).map(|k| u8::from_str_radix(&digits[2 * k..2 * k + 2], 16).unwrap()).collect()
+}
+
+/// A transfer of these data.
+fn transfer(data: &str) -> Vec<u8> {
+    let data = bytes(data);
+    [&[0x6f, data.len() as u8, 0, 0, 0, 0, 9, 0, 0, 0][..], &data].concat()
+}
+
+/// What is told of the answer to a transfer that succeeded with these data: the part of that name.
+fn told(name: &str, apdu: &str, data: &str) -> Option<String> {
+    let data = bytes(data);
+    let whole = [&[0x80, data.len() as u8, 0, 0, 0, 0, 9, 0, 0, 0][..], &data].concat();
+    answer(&transfer(apdu), &whole).into_iter().find(|(part, _)| *part == name).map(|(_, text)| text)
+}
+
+#[test]
+fn messages() {
+    assert_eq!(message(&bytes("62 00000000 00 07 000000")), "62 power on, bSlot 00, bSeq 07");
+    assert_eq!(message(&bytes("65 00000000 05 07 000000")), "65 slot status, bSlot 05, bSeq 07");
+    assert_eq!(
+        message(&bytes("63 FFFFFFFF 00 07 010203")),
+        "63 power off, bSlot 00, bSeq 07, dwLength FFFFFFFFh where 0 bytes came, bytes 7 to 9 01 02 03"
+    );
+    assert_eq!(message(&bytes("61 00000000 00 07 000000")), "61 an unsupported type, bSlot 00, bSeq 07");
+    assert_eq!(message(&[0x65]), "a message of only 1 bytes: 65");
+}
+
+#[test]
+fn commands() {
+    for (apdu, text) in [
+        ("FF A4 00 00 01 06", "A4 select type 06"),
+        ("FF 01 00 00 01 03", "01 set the reader page, code 03"),
+        ("FF B0 01 02 01", "B0 read 1 byte from 0102"),
+        ("FF B0 01 02 10", "B0 read 16 bytes from 0102"),
+        ("FF B1 00 00 04", "B1 read the counter"),
+        ("FF B2 00 10 02", "B2 read 2 bytes of protection bits from 0010"),
+        ("FF D0 00 10 02 AA BB", "D0 write AA BB at 0010"),
+        ("FF D1 00 10 02 AA BB", "D1 protect AA BB at 0010"),
+        ("FF 20 00 00 03 01 02 03", "20 present code 01 02 03"),
+        ("FF D2 00 01 03 01 02 03", "D2 change the code to 01 02 03"),
+        ("FF B3 00 00 00", "no command: FF B3 00 00 00"),
+        ("00 B0 00 00 01", "no command: 00 B0 00 00 01"),
+        ("FF B0", "2 data bytes FF B0"),
+    ] {
+        assert_eq!(message(&transfer(apdu)), format!("6F transfer, bSlot 00, bSeq 09, {}", text));
+    }
+}
+
+#[test]
+fn long_rows_are_cut() {
+    assert_eq!(row(&[1; 24]), ["01"; 24].join(" "));
+    assert_eq!(row(&[1; 25]), format!("{} .. 01 01 01 01 (25 bytes)", ["01"; 16].join(" ")));
+}
+
+#[test]
+fn answers() {
+    let status = answer(&bytes("65 00000000 00 07 000000"), &bytes("81 00000000 00 07 01 00 01"));
+    assert_eq!(status[0], ("answer", "81 slot status, bSlot 00, bSeq 07, clock stopped".to_string()));
+    assert_eq!(status[1], ("status", "01 success, card inactive, error 00 none".to_string()));
+    assert_eq!(status.len(), 2);
+    let reset = answer(&bytes("62 00000000 00 00 000000"), &bytes("80 02000000 00 00 00 00 00 3B 00"));
+    assert_eq!(reset[2], ("data", "3B 00, the answer to reset".to_string()));
+    for (error, text) in [
+        (0x00, "the message type is not supported"),
+        (0x01, "dwLength is wrong"),
+        (0x05, "there is no such slot"),
+        (0x07, "bPowerSelect is not supported"),
+        (0x08, "wLevelParameter is not 0"),
+        (0xfe, "the card is mute: there is none, or it is not active"),
+        (0x02, "no error of the paper"),
+    ] {
+        let failed = answer(&transfer(""), &[0x80, 0, 0, 0, 0, 0, 9, 0x42, error, 0]);
+        let wanted = format!("42 failed, no card, or another slot, error {:02X} {}", error, text);
+        assert_eq!(failed[1], ("status", wanted));
+    }
+}
+
+#[test]
+fn status_words() {
+    for (word, text) in [
+        ("90 00", "done"),
+        ("67 00", "wrong length"),
+        ("6E 00", "wrong class: the first byte is not FF"),
+        ("6D 00", "no such command here"),
+        ("69 85", "no type is selected"),
+        ("6B 00", "wrong place: P1P2, or the range that it begins"),
+        ("6A 80", "wrong value: the type, or the page code"),
+        ("69 82", "not allowed: the card is closed, or a byte is protected"),
+        ("69 83", "no status word of the paper"),
+    ] {
+        assert_eq!(told("word", "FF B0 00 00 01", word), Some(format!("{} {}", word, text)));
+    }
+    let codes = [("FF 20 00 00 03 01 02 03", "90 07"), ("FF 20 00 00 02 01 02", "90 FF")];
+    let open = [
+        "90 07 the right code: the card is open, counter 07, 3 tries left",
+        "90 FF the right code: the card is open, counter FF, 8 tries left",
+    ];
+    for ((apdu, word), text) in codes.iter().zip(open) {
+        assert_eq!(told("word", apdu, word).as_deref(), Some(text));
+    }
+    let closed = "90 04 the card is closed: counter 04, 1 try left";
+    assert_eq!(told("word", codes[0].0, "90 04").as_deref(), Some(closed));
+    let closed = "90 00 the card is closed: counter 00, no tries left";
+    assert_eq!(told("word", codes[0].0, "90 00").as_deref(), Some(closed));
+}
+
+#[test]
+fn data() {
+    let counter = told("data", "FF B1 00 00 04", "05 00 00 00 90 00");
+    assert_eq!(counter.as_deref(), Some("05 00 00 00, counter 05: 2 tries left"));
+    // Bit k of byte j is the byte 10h + 8j + k; 0 is protected.
+    let bits = told("data", "FF B2 00 10 02", "F1 7E 90 00");
+    assert_eq!(bits.as_deref(), Some("F1 7E, protected: 0011..0013 0018 001F"));
+    let bits = told("data", "FF B2 00 00 01", "FF 90 00");
+    assert_eq!(bits.as_deref(), Some("FF, protected: none"));
+    assert_eq!(told("data", "FF B0 00 00 01", "A2 90 00").as_deref(), Some("A2"));
+    assert_eq!(told("data", "FF B0 00 00 01", "90 00"), None);
+}
+
+/// A reader that is wrong may answer anything to anything; it is told all the same.
+#[test]
+fn odd_answers() {
+    let long = [&[0x80, 4, 0, 0, 0, 0, 9, 0, 0, 0][..], &[1, 2, 0x90, 0x00]].concat();
+    for apdu in ["", "FF", "FF B1", "FF B2", "FF B2 00", "FF 20"] {
+        let parts = answer(&transfer(apdu), &long);
+        assert_eq!(parts.last().map(|(name, _)| *name), Some("word"));
+    }
+    assert_eq!(answer(&[0x6f], &long).len(), 4);
+    assert_eq!(answer(&[], &long).len(), 3);
+    assert_eq!(answer(&transfer(""), &long[..9])[0].1, "only 9 bytes: 80 04 00 00 00 00 09 00 00");
+    let parts = answer(&transfer(""), &[0x55, 1, 0, 0, 0, 0, 9, 3, 1, 0]);
+    assert_eq!(parts[0].1, "55 no answer type of the paper, bSlot 00, bSeq 09, dwLength 1 where 0 bytes came");
+    assert_eq!(parts[1].1, "03 success, no state of the paper, error 01 which a success does not have");
+}
