@@ -172,8 +172,8 @@ fn cut(text: &str) -> String {
 
 // ---- checking
 
-/// Holds each script to the files beside it: its records, and the lines that the session program
-/// prints.
+/// Holds each script to its files in the folder `expected` beside it: NAME.records has its records,
+/// NAME.lines the lines that the session program prints for them.
 fn check_all(root: &Path, files: &[&str]) -> Result<bool, String> {
     let (mut passed, mut failed) = (0, 0);
     for file in files {
@@ -195,12 +195,15 @@ fn check_all(root: &Path, files: &[&str]) -> Result<bool, String> {
 
 fn check(root: &Path, file: &str, steps: &[Step]) -> Result<String, String> {
     let kept = |extension: &str| {
-        let path = Path::new(file).with_extension(extension);
+        let script = Path::new(file);
+        let mut name = script.file_stem().unwrap_or_default().to_os_string();
+        name.push(extension);
+        let path = script.with_file_name("expected").join(name);
         fs::read_to_string(&path).map_err(|error| format!("{}: {}", path.display(), error))
     };
-    same("record", &kept("records")?, &record_lines(steps))?;
+    same("record", &kept(".records")?, &record_lines(steps))?;
     let run = run(root, file, steps, false)?;
-    same("line", &kept("expected")?, &joined(&run.lines))?;
+    same("line", &kept(".lines")?, &joined(&run.lines))?;
     match run.failures.first() {
         Some(failure) => Err(failure.clone()),
         None => Ok(format!("{} records, {} expectations", run.lines.len(), run.expectations)),
