@@ -2,8 +2,7 @@
  * examples/c/build builds and runs it. */
 #include "card_reader.h"
 
-/* Declared here, so that a compiler without C's headers will do. */
-int printf(const char *format, ...);
+#include <stdio.h>
 
 /* All that the reader knows: the slot and the card's memory. */
 static uint8_t record[CARD_READER_RECORD];

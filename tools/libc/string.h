@@ -1,4 +1,4 @@
-// What bench/ uses of the C library's header; the kit has the library without its headers.
+// What this repository's C uses of the C library's header; the kit has the library without its headers.
 #ifndef STRING_H
 #define STRING_H
 #include <stddef.h>

@@ -1,4 +1,4 @@
-// What bench/ uses of the C library's header; the kit has the library without its headers.
+// What this repository's C uses of the C library's header; the kit has the library without its headers.
 #ifndef TIME_H
 #define TIME_H
 struct timespec {
