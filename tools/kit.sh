@@ -48,6 +48,7 @@ need_session() {
         find_kit
         echo "$me: proving and building the session program, once: some minutes" >&2
         run_rt check session
+        [ -f target/bin/session ] || die "rt takes target/bin/session for built, and it is not there: remove target/stamp/session"
     fi
 }
 
