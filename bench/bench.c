@@ -2,6 +2,7 @@
 //
 //   bench time ROUNDS    the time of a call, and the ratio as the median, least and most of the rounds
 //   bench count ROUNDS   calls between marks on standard error, for an emulator that logs instructions there
+//   bench steps          the instructions of a call, counted by stepping through them one by one
 //   bench stack          the deepest use of the stack of each function, by painting
 //
 // A row is a state and a message. Before a call the record and one byte of the image are put back, so
@@ -14,6 +15,10 @@
 #include <time.h>
 
 long write(int file, const void *bytes, size_t count);
+int fork(void);
+int waitpid(int child, int *status, int options);
+long ptrace(int request, ...);
+void _exit(int status);
 
 typedef int32_t message_call(uint8_t *, size_t, uint8_t *, size_t, const uint8_t *, size_t, uint8_t *, size_t);
 typedef int32_t insert_call(uint8_t *, size_t, uint8_t, const uint8_t *, size_t);
@@ -281,6 +286,69 @@ static void count(unsigned rounds) {
     }
 }
 
+// ---- instructions, one by one: a child makes the calls, and its parent steps through them
+
+enum { TRACE_ME = 0, PEEK_USER = 3, CONTINUE = 7, SINGLE_STEP = 9, PLACE_OF_RIP = 128, STOPPED = 0x7f, TRAP = 5 };
+
+__attribute__((noinline)) static void region_end(void) { __asm__ volatile(""); }
+
+__attribute__((noinline)) static void region(message_call *call, const struct row *row) {
+    __asm__ volatile("int3");
+    run(call, row, CALLS);
+    region_end();
+}
+
+// Lets the child go on; whether it stopped at a trap.
+static int goes(int child, int request) {
+    int status = 0;
+    ptrace(request, child, 0L, 0L);
+    return waitpid(child, &status, 0) == child && (status & 0xff) == STOPPED && status >> 8 == TRAP;
+}
+
+// The instructions of the child's next region, or 0 where it broke off.
+static double region_steps(int child) {
+    double steps = 0;
+    if (!goes(child, CONTINUE))
+        return 0;
+    do {
+        if (!goes(child, SINGLE_STEP))
+            return 0;
+        steps++;
+    } while ((uintptr_t)ptrace(PEEK_USER, child, (long)PLACE_OF_RIP, 0L) != (uintptr_t)region_end);
+    return steps;
+}
+
+static void make_regions(void) {
+    ptrace(TRACE_ME, 0, 0L, 0L);
+    for (size_t i = 0; i < row_count; i++) {
+        make_card(rows[i].kind);
+        region(empty, &rows[i]);
+        region(library, &rows[i]);
+        region(plain, &rows[i]);
+    }
+    _exit(0);
+}
+
+// Number, row, card, instructions of the library and of C, and the ratio thrice, as time_rows has it.
+static int step_rows(void) {
+    int child = fork();
+    if (child == 0)
+        make_regions();
+    for (size_t i = 0; i < row_count; i++) {
+        double none = region_steps(child), ours = region_steps(child) - none, theirs = region_steps(child) - none;
+        if (none <= 0 || ours <= 0 || theirs <= 0) {
+            dprintf(2, "bench: the child could not be stepped through\n");
+            return 1;
+        }
+        double ratio = ours / theirs;
+        printf("%03u\t%s\t%s\t%.1f\t%.1f\t%.3f\t%.3f\t%.3f\n", (unsigned)i, rows[i].name, card_of(rows[i].kind),
+               ours / CALLS, theirs / CALLS, ratio, ratio, ratio);
+    }
+    ptrace(CONTINUE, child, 0L, 0L);
+    waitpid(child, NULL, 0);
+    return 0;
+}
+
 // ---- time
 
 static double seconds(void) {
@@ -423,10 +491,12 @@ int main(int argc, char **argv) {
         time_rows(rounds);
     else if (argc == 3 && rounds > 0 && !strcmp(argv[1], "count"))
         count(rounds);
+    else if (argc == 2 && !strcmp(argv[1], "steps"))
+        return step_rows();
     else if (argc == 2 && !strcmp(argv[1], "stack"))
         stack();
     else {
-        dprintf(2, "usage: bench time ROUNDS | count ROUNDS | stack\n");
+        dprintf(2, "usage: bench time ROUNDS | count ROUNDS | steps | stack\n");
         return 2;
     }
     return 0;
