@@ -3,7 +3,7 @@
 # shellcheck shell=sh
 
 # The crate with the calls for C, and the static library that `rt staticlib` makes of it.
-crate=raw
+crate=card_reader
 library=target/staticlib/lib$crate.a
 
 die() { printf '%s: %s\n' "${me:?}" "$*" >&2; exit 2; }

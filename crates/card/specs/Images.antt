@@ -6,8 +6,8 @@ use lib.ListN.{length}
 use lib.Dec.{leb}
 use Rattle.words.specs.Choice.{_and_, _is_}
 use Rattle.words.specs.Bytes.{byte}
-use Rattle.card.specs.Kinds.{Facts}
-use Rattle.card.specs.Protection.{isProtected}
+use Rattle.chips.specs.declared.Facts.{Facts}
+use Rattle.bits.specs.Bits.{isProtected}
 
 -- The length is the kind's, the counter is at most full, and the counter's own protection bit is not 0. An I2C card has
 -- neither counter nor bit: there the length alone counts. An SLE4442's counter has no bit, and an SLE4428's is never above FFh.

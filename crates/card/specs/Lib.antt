@@ -1,4 +1,1 @@
-pub mod Kinds
-pub mod Counters
-pub mod Protection
 pub mod Images

@@ -7,28 +7,30 @@ use mathlib.Core.Logic.{_≢_}
 use native.Mathlib.Omega.{arith}
 use Rattle.words.specs.Bytes.{byte, same}
 use Rattle.words.proofs.Choices.{either, rest, and-true, and-fails, and-holds, both, no-test}
-use Rattle.card.specs.declared.Chip.{Chip}
-use Rattle.card.specs.Kinds.{Facts, facts}
-use Rattle.card.specs.Counters.{tries}
-use Rattle.card.proofs.KindLaws.{coded}
+use Rattle.codes.specs.Counters.{tries}
+use Rattle.codes.specs.Codes.{codeIn}
+use Rattle.codes.proofs.CodeLaws.{code-presenting}
+use Rattle.chips.specs.declared.Chip.{Chip}
+use Rattle.chips.specs.declared.Facts.{Facts}
+use Rattle.chips.specs.Kinds.{facts}
+use Rattle.chips.proofs.KindLaws.{coded}
 use Rattle.slot.specs.declared.Holds.the-variants.{Card}
 use Rattle.slot.specs.declared.Slot.{Slot}
-use Rattle.slot.specs.Slots.{sound}
-use Rattle.memory.specs.Codes.{codeIn}
-use Rattle.memory.proofs.CodeLaws.{code-presenting}
 use Rattle.steps.specs.declared.Status.{Status}
 use Rattle.steps.specs.declared.Order.{Order}
-use Rattle.steps.specs.Steps.{order, body}
-use Rattle.command.specs.Orders.{performed, imageBy, slotBy}
+use Rattle.steps.specs.Steps.{order, body, presents}
 use Rattle.steps.proofs.PresentAgain.{present-again}
-use Rattle.reader.specs.Messages.{Request, Transfer, apdu, ready, faultOf, isClear}
-use Rattle.reader.specs.Exchange.{Outcome}
+use Rattle.sound.specs.Sound.{sound}
+use Rattle.faults.specs.Faults.{Request, Transfer, apdu, ready, faultOf, isClear}
+use Rattle.orders.specs.Orders.{performed, imageBy, slotBy}
+use Rattle.frame.specs.Exchange.{Outcome}
 use Rattle.reader.specs.Runs.{Sent, sending, run}
-use Rattle.promise.specs.Proper.{Proper}
-use Rattle.promise.specs.Tries.{requested, faulted, none, wrong, heard, transfers, presents, reached, rightNow, eventOf, after, triesIn, costOfTwo}
-use Rattle.promise.proofs.Came.{Came, down, failed, done, came, heard-proper, heard-clear}
-use Rattle.promise.proofs.Kept.{exchange-holds, proper-kept}
-use Rattle.promise.proofs.Reached.{transfers-is, presents-is, reached-does, unreached-keeps, unreached-none, none-unreached, reached-event, wrong-reached}
+use Rattle.reader.specs.Proper.{Proper}
+use Rattle.reader.specs.Heard.{requested, faulted, heard, transfers, reached}
+use Rattle.reader.proofs.Came.{obeyed, Came, down, failed, came, heard-proper, heard-clear}
+use Rattle.reader.proofs.Kept.{exchange-holds, proper-kept}
+use Rattle.promise.specs.Tries.{none, wrong, rightNow, eventOf, after, triesIn}
+use Rattle.promise.proofs.Reached.{transfers-is, reached-does, unreached-keeps, unreached-none, none-unreached, reached-event, wrong-reached}
 use Rattle.promise.proofs.Tries.{message-tries}
 
 -- ---- equal codes
@@ -78,7 +80,7 @@ module _ (chip : Chip) (c : facts chip .coded ≡ true) (s : Slot) (image : List
       let t = and-true _ _ e in
       let u = and-true _ _ (t .1) in
       both (heard-again e) (both (u .0)
-      (ap presents (present-again f s (then .slot) image (then .image) (apdu (m .message)) (reached-slot e .1) (presents-is _ (u .1)))))
+      (ap presents (present-again f s (then .slot) image (then .image) (apdu (m .message)) (reached-slot e .1) (u .1))))
 
   -- a wrong code that reached the card reaches it again when the same message is sent again, and is wrong again
   pub wrong-again : eventOf f s image m ≡ wrong → eventOf f (then .slot) (then .image) m ≡ wrong
@@ -87,7 +89,7 @@ module _ (chip : Chip) (c : facts chip .coded ≡ true) (s : Slot) (image : List
       reached-event f (then .slot) (then .image) m (reached-again (t .0)) ∙ rest _ _ (reached-code (t .0) ∙ t .1)
 
   -- bSeq is only echoed: the same message sent twice costs two tries, stopping at zero
-  pub equal-codes-cost-two : eventOf f s image m ≡ wrong → triesIn f (run s image (m ∷ m ∷ []) .image) ≡ triesIn f image - costOfTwo
+  pub equal-codes-cost-two : eventOf f s image m ≡ wrong → triesIn f (run s image (m ∷ m ∷ []) .image) ≡ triesIn f image - 2
   unfolding run
   equal-codes-cost-two e =
       let one : triesIn f (then .image) ≡ triesIn f image - 1 =
@@ -114,7 +116,7 @@ module _ (f : Facts) (s : Slot) (image : List ℕ) (m : Sent) where
       go : {o : Outcome} → Came s image m o → o .number ≢ 0 → eventOf f s image m ≡ none
       go (down r h) ne = unheard-none h
       go (failed p h) ne = unheard-none h
-      go (done h) ne = absurd (ne refl)
+      go (obeyed h) ne = absurd (ne refl)
 
   pub failed-none : isClear (faulted s m) ≡ false → eventOf f s image m ≡ none
   failed-none e = go (heard s image m) refl

@@ -6,14 +6,17 @@ use mathlib.Core.Logic.{_⊎_, inl, inr}
 use mathlib.Core.List.{List, _++_}
 use native.Mathlib.Omega.{arith}
 use lib.ListN.{length, take, drop}
-use borrow.Author.Tests.{eqb-true}
-use Rattle.words.specs.Choice.{_or_, _is_}
+use lib.Dec.{leb}
+use borrow.Author.Tests.{eqb-true, le-leb}
+use Rattle.words.specs.Choice.{_means_, _and_, _or_, _is_}
 use Rattle.words.proofs.Choices.{or-true}
-use Rattle.card.specs.declared.Chip.{Chip}
-use Rattle.card.specs.Kinds.{facts}
-use Rattle.slot.specs.Slots.{pageSize}
-use Rattle.memory.specs.Pages.{pageWrite}
-use Rattle.memory.proofs.PageLaws.{page-range}
+use Rattle.pages.specs.Pages.{pageWrite}
+use Rattle.pages.proofs.PageLaws.{page-range}
+use Rattle.chips.specs.declared.Chip.{Chip}
+use Rattle.chips.specs.declared.Facts.{Facts}
+use Rattle.chips.specs.Kinds.{facts}
+use Rattle.chips.proofs.Each.{allOf, each-of}
+use Rattle.sound.specs.Sound.{pageSize}
 
 -- the five reader pages
 data Page : ℕ → Type 0 where
@@ -46,63 +49,14 @@ page-of p e = one (or-true _ _ e)
     one (inl h) = this 8 page8 h
     one (inr h) = two (or-true _ _ h)
 
--- a reader page that is at most a chip page divides it
+-- a reader page that is at most a chip page divides it: computed over the table's rows for each of the five
 divides : (chip : Chip) {p : ℕ} → Page p → p ≤ facts chip .page → facts chip .page % p ≡ 0
-divides Chip.I2c1 page8 h = refl
-divides Chip.I2c1 page16 h = absurd (omega arith)
-divides Chip.I2c1 page32 h = absurd (omega arith)
-divides Chip.I2c1 page64 h = absurd (omega arith)
-divides Chip.I2c1 page128 h = absurd (omega arith)
-divides Chip.I2c2 page8 h = refl
-divides Chip.I2c2 page16 h = absurd (omega arith)
-divides Chip.I2c2 page32 h = absurd (omega arith)
-divides Chip.I2c2 page64 h = absurd (omega arith)
-divides Chip.I2c2 page128 h = absurd (omega arith)
-divides Chip.I2c4 page8 h = refl
-divides Chip.I2c4 page16 h = refl
-divides Chip.I2c4 page32 h = absurd (omega arith)
-divides Chip.I2c4 page64 h = absurd (omega arith)
-divides Chip.I2c4 page128 h = absurd (omega arith)
-divides Chip.I2c8 page8 h = refl
-divides Chip.I2c8 page16 h = refl
-divides Chip.I2c8 page32 h = absurd (omega arith)
-divides Chip.I2c8 page64 h = absurd (omega arith)
-divides Chip.I2c8 page128 h = absurd (omega arith)
-divides Chip.I2c16 page8 h = refl
-divides Chip.I2c16 page16 h = refl
-divides Chip.I2c16 page32 h = absurd (omega arith)
-divides Chip.I2c16 page64 h = absurd (omega arith)
-divides Chip.I2c16 page128 h = absurd (omega arith)
-divides Chip.I2c32 page8 h = refl
-divides Chip.I2c32 page16 h = refl
-divides Chip.I2c32 page32 h = refl
-divides Chip.I2c32 page64 h = absurd (omega arith)
-divides Chip.I2c32 page128 h = absurd (omega arith)
-divides Chip.I2c64 page8 h = refl
-divides Chip.I2c64 page16 h = refl
-divides Chip.I2c64 page32 h = refl
-divides Chip.I2c64 page64 h = absurd (omega arith)
-divides Chip.I2c64 page128 h = absurd (omega arith)
-divides Chip.I2c128 page8 h = refl
-divides Chip.I2c128 page16 h = refl
-divides Chip.I2c128 page32 h = refl
-divides Chip.I2c128 page64 h = refl
-divides Chip.I2c128 page128 h = absurd (omega arith)
-divides Chip.I2c256 page8 h = refl
-divides Chip.I2c256 page16 h = refl
-divides Chip.I2c256 page32 h = refl
-divides Chip.I2c256 page64 h = refl
-divides Chip.I2c256 page128 h = absurd (omega arith)
-divides Chip.Sle4428 page8 h = absurd (omega arith)
-divides Chip.Sle4428 page16 h = absurd (omega arith)
-divides Chip.Sle4428 page32 h = absurd (omega arith)
-divides Chip.Sle4428 page64 h = absurd (omega arith)
-divides Chip.Sle4428 page128 h = absurd (omega arith)
-divides Chip.Sle4442 page8 h = absurd (omega arith)
-divides Chip.Sle4442 page16 h = absurd (omega arith)
-divides Chip.Sle4442 page32 h = absurd (omega arith)
-divides Chip.Sle4442 page64 h = absurd (omega arith)
-divides Chip.Sle4442 page128 h = absurd (omega arith)
+unfolding allOf _and_ _means_
+divides chip page8 h = eqb-true _ _ (each-of (λ (f : Facts). leb 8 (f .page)) (λ (f : Facts). f .page % 8 is 0) refl chip (le-leb 8 _ h))
+divides chip page16 h = eqb-true _ _ (each-of (λ (f : Facts). leb 16 (f .page)) (λ (f : Facts). f .page % 16 is 0) refl chip (le-leb 16 _ h))
+divides chip page32 h = eqb-true _ _ (each-of (λ (f : Facts). leb 32 (f .page)) (λ (f : Facts). f .page % 32 is 0) refl chip (le-leb 32 _ h))
+divides chip page64 h = eqb-true _ _ (each-of (λ (f : Facts). leb 64 (f .page)) (λ (f : Facts). f .page % 64 is 0) refl chip (le-leb 64 _ h))
+divides chip page128 h = eqb-true _ _ (each-of (λ (f : Facts). leb 128 (f .page)) (λ (f : Facts). f .page % 128 is 0) refl chip (le-leb 128 _ h))
 
 some-page : {p : ℕ} → Page p → 0 < p
 some-page page8 = omega arith

@@ -1,29 +1,31 @@
 -- What a message does to a code card: one that no code reached it by leaves the counter, and one that a code did is exactly a presented code.
 use Prim.Native.Nat.{ℕ}
-use mathlib.Core.Path.{_≡_, refl, sym, ap, _∙_, subst⁻¹}
+use mathlib.Core.Path.{_≡_, refl, ap, _∙_, subst⁻¹}
 use mathlib.Core.Bool.{Bool, true, false, false≢true}
 use mathlib.Core.List.{List}
-use mathlib.Core.Logic.{_≢_}
 use Rattle.words.specs.Choice.{_⇒_⁏_}
 use Rattle.words.specs.Bytes.{byte}
 use Rattle.words.proofs.Choices.{first, rest, and-true, and-holds, no-test}
-use Rattle.card.specs.declared.Chip.{Chip}
-use Rattle.card.specs.Kinds.{Facts, facts}
-use Rattle.card.proofs.KindLaws.{coded}
+use Rattle.chips.specs.declared.Chip.{Chip}
+use Rattle.chips.specs.declared.Facts.{Facts}
+use Rattle.chips.specs.Kinds.{facts}
+use Rattle.chips.proofs.KindLaws.{coded}
 use Rattle.slot.specs.declared.Holds.{Holds}
 use Rattle.slot.specs.declared.Holds.the-variants.{Card}
 use Rattle.slot.specs.declared.Slot.{Slot}
 use Rattle.steps.specs.declared.Order.{Order}
-use Rattle.steps.specs.Steps.{order, body}
-use Rattle.command.specs.Orders.{performed, commanded}
+use Rattle.steps.specs.Steps.{order, body, presents}
+use Rattle.steps.proofs.PresentAgain.{presents-is}
 use Rattle.steps.proofs.Decisions.{order-fits}
-use Rattle.command.proofs.ImageKept.{counter-kept}
-use Rattle.reader.specs.declared.Fault.{Fault}
-use Rattle.reader.specs.Messages.{Request, PowerOn, PowerOff, SlotStatus, Transfer, Unsupported, apdu}
-use Rattle.reader.specs.Exchange.{Outcome, deed, answered}
+use Rattle.faults.specs.declared.Fault.{Fault}
+use Rattle.faults.specs.Faults.{Request, PowerOn, PowerOff, SlotStatus, Transfer, Unsupported, apdu}
+use Rattle.orders.specs.Orders.{performed, commanded}
+use Rattle.orders.proofs.ImageKept.{counter-kept}
+use Rattle.frame.specs.Exchange.{Outcome, deed, answered}
 use Rattle.reader.specs.Runs.{Sent, sending}
-use Rattle.promise.specs.Tries.{requested, faulted, none, wrong, right, heard, transfers, presents, reached, rightNow, eventOf}
-use Rattle.promise.proofs.Came.{Came, down, failed, done, came, heard-clear, clear-is}
+use Rattle.reader.specs.Heard.{requested, faulted, heard, transfers, reached}
+use Rattle.reader.proofs.Came.{obeyed, Came, down, failed, came, heard-clear, clear-is}
+use Rattle.promise.specs.Tries.{none, wrong, right, rightNow, eventOf}
 
 -- ---- the tests of `reached`, read back
 pub transfers-is : (r : Request) → transfers r ≡ true → r ≡ Transfer
@@ -33,18 +35,6 @@ transfers-is SlotStatus e = absurd (false≢true e)
 transfers-is Transfer e = refl
 transfers-is Unsupported e = absurd (false≢true e)
 
-pub presents-is : (o : Order) → presents o ≡ true → o ≡ Order.Present
-presents-is (Order.Refuse status) e = absurd (false≢true e)
-presents-is Order.Select e = absurd (false≢true e)
-presents-is (Order.Page p) e = absurd (false≢true e)
-presents-is (Order.Read at n) e = absurd (false≢true e)
-presents-is (Order.Counter n) e = absurd (false≢true e)
-presents-is (Order.Bits at n) e = absurd (false≢true e)
-presents-is (Order.Write at) e = absurd (false≢true e)
-presents-is (Order.Protect at) e = absurd (false≢true e)
-presents-is Order.Present e = refl
-presents-is Order.Change e = absurd (false≢true e)
-
 -- a message that is heard does its deed
 pub heard-does : (s : Slot) (image : List ℕ) (m : Sent) → heard s image m ≡ true
     → sending s image m ≡ answered (requested m) (m .message) (faulted s m) (deed (requested m) (s .holds) s image (m .message))
@@ -53,7 +43,7 @@ heard-does s image m e = go (came s image m)
     go : {o : Outcome} → Came s image m o → o ≡ answered (requested m) (m .message) (faulted s m) (deed (requested m) (s .holds) s image (m .message))
     go (down r h) = no-test e h
     go (failed p h) = no-test e h
-    go (done h) = refl
+    go (obeyed h) = refl
 
 module _ (chip : Chip) (s : Slot) (image : List ℕ) (m : Sent) (holds : s .holds ≡ Card chip) where
   abbrev apart : List ℕ
@@ -81,7 +71,7 @@ module _ (chip : Chip) (s : Slot) (image : List ℕ) (m : Sent) (holds : s .hold
       ∙ ap (λ (o : Order). answered Transfer (m .message) Fault.Clear (performed (facts chip) s image (body apart) o)) (presents-is _ (u .1))
 
   -- what no code reached the card by leaves the counter
-  deed-keeps : (r : Request) → facts chip .coded ≡ true → (transfers r ≡ true → order (facts chip) s image apart ≢ Order.Present)
+  deed-keeps : (r : Request) → facts chip .coded ≡ true → (transfers r ≡ true → presents (order (facts chip) s image apart) ≡ false)
       → byte (deed r (Card chip) s image (m .message) .image) (facts chip .counter) ≡ byte image (facts chip .counter)
   unfolding deed commanded performed
   deed-keeps PowerOn c ne = refl
@@ -99,9 +89,9 @@ module _ (chip : Chip) (s : Slot) (image : List ℕ) (m : Sent) (holds : s .hold
       go : {o : Outcome} → Came s image m o → byte (o .image) (facts chip .counter) ≡ byte image (facts chip .counter)
       go (down r h) = refl
       go (failed p h) = refl
-      go (done h) =
+      go (obeyed h) =
           subst⁻¹ (λ (x : Holds). byte (deed (requested m) x s image (m .message) .image) (facts chip .counter) ≡ byte image (facts chip .counter)) holds
-          (deed-keeps (requested m) c (λ t o. no-test (sym (and-holds h (and-holds t (sym (ap presents o))))) e))
+          (deed-keeps (requested m) c (λ t. and-holds h (and-holds t refl) ∙ e))
 
 -- ---- what a message was to the card
 event-none : (a b : Bool) → (a ⇒ (b ⇒ right ⁏ wrong) ⁏ none) ≡ none → a ≡ false

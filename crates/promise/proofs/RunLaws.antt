@@ -4,8 +4,8 @@ use mathlib.Core.List.{List, [], _∷_, _++_}
 use Prim.Native.Nat.{ℕ}
 use Rattle.slot.specs.declared.Slot.{Slot}
 use Rattle.reader.specs.Runs.{Sent, sending, run}
-use Rattle.promise.specs.Proper.{Proper}
-use Rattle.promise.proofs.Kept.{exchange-holds, proper-kept}
+use Rattle.reader.specs.Proper.{Proper}
+use Rattle.reader.proofs.Kept.{exchange-holds, proper-kept}
 
 -- the card stays in for a whole run
 pub run-holds : (s : Slot) (image : List ℕ) (ms : List Sent) → run s image ms .slot .holds ≡ s .holds

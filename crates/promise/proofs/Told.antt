@@ -5,19 +5,20 @@ use mathlib.Core.Bool.{true}
 use mathlib.Core.List.{List, [], _∷_, _++_}
 use lib.ListN.{replicate}
 use Rattle.words.specs.Bytes.{byte}
-use Rattle.card.specs.declared.Chip.{Chip}
-use Rattle.card.specs.Kinds.{facts}
+use Rattle.chips.specs.declared.Chip.{Chip}
+use Rattle.chips.specs.Kinds.{facts}
+use Rattle.reads.specs.Reads.{counterRead}
 use Rattle.slot.specs.declared.Holds.the-variants.{Card}
 use Rattle.slot.specs.declared.Slot.{Slot}
-use Rattle.memory.specs.Reads.{counterRead}
 use Rattle.steps.specs.declared.Order.{Order}
 use Rattle.steps.specs.Steps.{order, body}
-use Rattle.command.specs.Orders.{performed, saidBy, imageBy, slotBy}
-use Rattle.reader.specs.declared.Fault.{Fault}
-use Rattle.reader.specs.Messages.{Transfer, apdu, answer}
-use Rattle.reader.specs.Exchange.{Outcome, answered}
+use Rattle.faults.specs.declared.Fault.{Fault}
+use Rattle.faults.specs.Faults.{Transfer, apdu}
+use Rattle.orders.specs.Orders.{performed, saidBy, imageBy, slotBy}
+use Rattle.frame.specs.Answers.{answer}
+use Rattle.frame.specs.Exchange.{Outcome, answered}
 use Rattle.reader.specs.Runs.{Sent, sending}
-use Rattle.promise.specs.Tries.{requested, heard, reached}
+use Rattle.reader.specs.Heard.{requested, heard, reached}
 use Rattle.promise.proofs.Reached.{transfer-does, reached-does}
 
 module _ (chip : Chip) (s : Slot) (image : List ℕ) (m : Sent) (holds : s .holds ≡ Card chip) where

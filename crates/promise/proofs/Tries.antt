@@ -8,22 +8,24 @@ use lib.ListN.{length}
 use Rattle.words.specs.Choice.{_⇒_⁏_}
 use Rattle.words.specs.Bytes.{byte}
 use Rattle.words.proofs.Choices.{either, and-true}
-use Rattle.card.specs.declared.Chip.{Chip}
-use Rattle.card.specs.Kinds.{Facts, facts}
-use Rattle.card.specs.Counters.{tries}
-use Rattle.card.proofs.KindLaws.{Coded, coded, laid}
-use Rattle.card.proofs.ImageLaws.{IsCard}
+use Rattle.codes.specs.Counters.{tries}
+use Rattle.codes.proofs.CodeLaws.{wrong-costs, right-gives}
+use Rattle.chips.specs.declared.Chip.{Chip}
+use Rattle.chips.specs.declared.Facts.{Facts}
+use Rattle.chips.specs.Kinds.{facts}
+use Rattle.chips.proofs.KindLaws.{Coded, coded, laid}
 use Rattle.slot.specs.declared.Holds.the-variants.{Card}
 use Rattle.slot.specs.declared.Slot.{Slot}
-use Rattle.memory.proofs.CodeLaws.{wrong-costs, right-gives}
+use Rattle.card.proofs.ImageLaws.{IsCard}
 use Rattle.steps.specs.Steps.{body}
-use Rattle.command.specs.Orders.{afterCode, imageBy, performed}
-use Rattle.reader.specs.Messages.{apdu}
-use Rattle.reader.specs.Exchange.{Outcome, insertion}
+use Rattle.faults.specs.Faults.{apdu}
+use Rattle.orders.specs.Orders.{afterCode, imageBy, performed}
+use Rattle.frame.specs.Exchange.{Outcome, insertion}
 use Rattle.reader.specs.Runs.{Sent, sending, run}
-use Rattle.promise.specs.Tries.{Event, wrong, right, reached, rightNow, eventOf, history, after, triesAfter, triesLeft, triesIn, PutIn, runFrom, historyFrom}
-use Rattle.promise.proofs.Came.{heard-proper}
-use Rattle.promise.proofs.Kept.{proper-card, exchange-holds}
+use Rattle.reader.specs.Heard.{reached}
+use Rattle.reader.proofs.Came.{heard-proper}
+use Rattle.reader.proofs.Kept.{proper-card, exchange-holds}
+use Rattle.promise.specs.Tries.{Event, wrong, right, rightNow, eventOf, history, after, triesAfter, triesLeft, triesIn, PutIn, runFrom, historyFrom}
 use Rattle.promise.proofs.Reached.{reached-does, unreached-keeps, unreached-none, reached-event}
 use Rattle.promise.proofs.Inserted.{put-slot, put-image}
 use Rattle.promise.proofs.Accounts.{fold-is-account}
@@ -80,4 +82,4 @@ module _ (chip : Chip) (s : Slot) (kind : ℕ) (image : List ℕ) (p : PutIn chi
       → triesIn (facts chip) (runFrom s kind image ms .image) ≡ triesLeft (tries (facts chip .full)) (triesIn (facts chip) image) (historyFrom chip s kind image ms)
   tries-remain ms =
       tries-left chip (p .coded) (insertion s kind image .slot) (insertion s kind image .image) ms (ap (λ (t : Slot). t .holds) (put-slot chip s kind image p))
-      ∙ ap (λ (l : List ℕ). triesLeft (tries (facts chip .full)) (triesIn (facts chip) l) (historyFrom chip s kind image ms)) (put-image chip s kind image p)
+      ∙ ap (λ (l : List ℕ). triesLeft (tries (facts chip .full)) (triesIn (facts chip) l) (historyFrom chip s kind image ms)) (put-image chip s kind image)

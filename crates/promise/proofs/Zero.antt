@@ -3,34 +3,34 @@ use Prim.Native.Nat.{ℕ}
 use mathlib.Core.Path.{_≡_, refl, sym, ap, _∙_, subst⁻¹}
 use mathlib.Core.Bool.{Bool, true, false}
 use mathlib.Core.List.{List, [], _∷_, _++_}
-use mathlib.Core.Logic.{_⊎_, inl, inr, _≢_}
 use native.Mathlib.Omega.{arith}
-use lib.Dec.{eqb}
-use borrow.Author.Tests.{eqb-true, eqb-false}
+use borrow.Author.Tests.{eqb-true}
 use Rattle.words.specs.Bytes.{byte}
 use Rattle.words.proofs.Choices.{and-true}
-use Rattle.card.specs.declared.Chip.{Chip}
-use Rattle.card.specs.Kinds.{Facts, facts}
-use Rattle.card.proofs.CounterLaws.{tries-some}
-use Rattle.card.proofs.KindLaws.{coded, laid}
-use Rattle.card.proofs.ImageLaws.{IsCard}
+use Rattle.codes.proofs.CounterLaws.{tries-zero}
+use Rattle.codes.proofs.CodeLaws.{presenting-none}
+use Rattle.chips.specs.declared.Chip.{Chip}
+use Rattle.chips.specs.declared.Facts.{Facts}
+use Rattle.chips.specs.Kinds.{facts}
+use Rattle.chips.proofs.KindLaws.{coded, laid}
 use Rattle.slot.specs.declared.Holds.{Holds}
 use Rattle.slot.specs.declared.Holds.the-variants.{Card}
 use Rattle.slot.specs.declared.Slot.{Slot}
-use Rattle.slot.specs.Slots.{fullCode}
-use Rattle.slot.proofs.SoundLaws.{Sound, sound-parts}
-use Rattle.memory.proofs.CodeLaws.{presenting-none}
-use Rattle.steps.specs.declared.Order.{Order}
-use Rattle.steps.specs.Steps.{order, body}
-use Rattle.command.specs.Orders.{performed, commanded, imageBy}
-use Rattle.command.proofs.ImageKept.{present-or-not, shut-kept}
-use Rattle.reader.specs.Messages.{Request, PowerOn, PowerOff, SlotStatus, Transfer, Unsupported, apdu}
-use Rattle.reader.specs.Exchange.{Outcome, deed, insertion}
+use Rattle.card.proofs.ImageLaws.{IsCard}
+use Rattle.steps.specs.Steps.{order, body, presents}
+use Rattle.steps.proofs.PresentAgain.{presents-is}
+use Rattle.sound.specs.Sound.{fullCode}
+use Rattle.sound.proofs.SoundLaws.{Sound, sound-parts}
+use Rattle.faults.specs.Faults.{Request, PowerOn, PowerOff, SlotStatus, Transfer, Unsupported, apdu}
+use Rattle.orders.specs.Orders.{performed, commanded, imageBy}
+use Rattle.orders.proofs.ImageKept.{shut-kept}
+use Rattle.frame.specs.Exchange.{Outcome, deed, insertion}
 use Rattle.reader.specs.Runs.{Sent, sending, run}
-use Rattle.promise.specs.Proper.{Proper}
-use Rattle.promise.specs.Tries.{requested, triesIn, PutIn, runFrom}
-use Rattle.promise.proofs.Came.{Came, down, failed, done, came, heard-proper}
-use Rattle.promise.proofs.Kept.{proper-card, exchange-holds}
+use Rattle.reader.specs.Proper.{Proper}
+use Rattle.reader.specs.Heard.{requested}
+use Rattle.reader.proofs.Came.{obeyed, Came, down, failed, came, heard-proper}
+use Rattle.reader.proofs.Kept.{proper-card, exchange-holds}
+use Rattle.promise.specs.Tries.{triesIn, PutIn, runFrom}
 use Rattle.promise.proofs.RunLaws.{run-holds, run-append}
 use Rattle.promise.proofs.Inserted.{put-slot}
 
@@ -41,13 +41,7 @@ module _ (chip : Chip) (c : facts chip .coded ≡ true) (s : Slot) (image : List
 
   -- no tries is a counter of 0
   counter-zero : IsCard f image → byte image (f .counter) ≡ 0
-  counter-zero k = go (eqb (byte image (f .counter)) 0) refl
-    where
-      go : (b : Bool) → eqb (byte image (f .counter)) 0 ≡ b → byte image (f .counter) ≡ 0
-      go true e = eqb-true _ _ e
-      go false e =
-          let some : byte image (f .counter) ≢ 0 = eqb-false _ _ e in
-          absurd (omega (arith, tries-some (byte image (f .counter)) (omega arith) (omega (arith, k .within, laid chip .small))))
+  counter-zero k = tries-zero (byte image (f .counter)) (omega (arith, k .within, laid chip .small)) zero
 
   -- a card with no tries is closed
   shut : IsCard f image → Sound s image → s .«open» ≡ false
@@ -62,14 +56,16 @@ module _ (chip : Chip) (c : facts chip .coded ≡ true) (s : Slot) (image : List
 
   order-zero : (d : List ℕ) → Proper s image → imageBy f s image (body d) (order f s image d) ≡ image
   unfolding imageBy
-  order-zero d p = go (present-or-not (order f s image d))
+  order-zero d p = go (presents (order f s image d)) refl
     where
       k : IsCard f image
       k = proper-card chip s image holds p
 
-      go : (order f s image d ≡ Order.Present) ⊎ (order f s image d ≢ Order.Present) → imageBy f s image (body d) (order f s image d) ≡ image
-      go (inl e) = ap (imageBy f s image (body d)) e ∙ presenting-none (f .counter) (f .full) (f .code) (f .digits) image (body d) (counter-zero k)
-      go (inr ne) = shut-kept f s image d c (shut k (sound-parts s image (p .sound))) ne
+      go : (b : Bool) → presents (order f s image d) ≡ b → imageBy f s image (body d) (order f s image d) ≡ image
+      go true e =
+          ap (imageBy f s image (body d)) (presents-is (order f s image d) e)
+          ∙ presenting-none (f .counter) (f .full) (f .code) (f .digits) image (body d) (counter-zero k)
+      go false e = shut-kept f s image d c (shut k (sound-parts s image (p .sound))) e
 
   deed-zero : (r : Request) (m : List ℕ) → Proper s image → deed r (Card chip) s image m .image ≡ image
   unfolding deed commanded performed
@@ -82,7 +78,7 @@ module _ (chip : Chip) (c : facts chip .coded ≡ true) (s : Slot) (image : List
   came-zero : (m : Sent) {o : Outcome} → Came s image m o → o .image ≡ image
   came-zero m (down r h) = refl
   came-zero m (failed p h) = refl
-  came-zero m (done h) =
+  came-zero m (obeyed h) =
       subst⁻¹ (λ (x : Holds). deed (requested m) x s image (m .message) .image ≡ image) holds (deed-zero (requested m) (m .message) (heard-proper s image m h))
 
   pub message-zero : (m : Sent) → sending s image m .image ≡ image
@@ -101,9 +97,13 @@ module _ (chip : Chip) (c : facts chip .coded ≡ true) where
 
 -- from the insertion on: once a run has left no tries, whatever comes after it leaves every byte
 module _ (chip : Chip) (s : Slot) (kind : ℕ) (image : List ℕ) (p : PutIn chip s kind image) where
+  pub zero-kept : (ms ns : List Sent) → triesIn (facts chip) (runFrom s kind image ms .image) ≡ 0
+      → run (runFrom s kind image ms .slot) (runFrom s kind image ms .image) ns .image ≡ runFrom s kind image ms .image
+  zero-kept ms ns z =
+      let r = runFrom s kind image ms in
+      let o = insertion s kind image in
+      zero-stays chip (p .coded) (r .slot) (r .image) ns (run-holds (o .slot) (o .image) ms ∙ ap (λ (t : Slot). t .holds) (put-slot chip s kind image p)) z
+
   pub zero-remains : (ms ns : List Sent) → triesIn (facts chip) (runFrom s kind image ms .image) ≡ 0
       → runFrom s kind image (ms ++ ns) .image ≡ runFrom s kind image ms .image
-  zero-remains ms ns z =
-      let r = runFrom s kind image ms in
-      run-append (insertion s kind image .slot) (insertion s kind image .image) ms ns
-      ∙ zero-stays chip (p .coded) (r .slot) (r .image) ns (run-holds (insertion s kind image .slot) (insertion s kind image .image) ms ∙ ap (λ (t : Slot). t .holds) (put-slot chip s kind image p)) z
+  zero-remains ms ns z = run-append (insertion s kind image .slot) (insertion s kind image .image) ms ns ∙ zero-kept ms ns z

@@ -1,5 +1,3 @@
-pub mod Sessions
-pub mod Proper
 pub mod Tries
+pub mod Sequences
 pub mod Visits
-pub mod Same

@@ -2,26 +2,27 @@
 --
 -- "For a code card just inserted and left in, after any run of messages, tries left are those it came with, or all of them since the
 -- last right code that met a try, less the wrong codes since, stopping at zero. From zero no message changes a byte of that card."
+use lib.ListN.{length}
+use lib.Dec.{leb}
+use mathlib.Core.Logic.{_≢_}
 use mathlib.Core.Path.{_≡_}
 use Prim.Native.Nat.{ℕ, suc, _-_}
 use mathlib.Core.Bool.{Bool, true, false}
 use mathlib.Core.List.{List, [], _∷_, _++_}
-use lib.ListN.{length}
-use lib.Dec.{leb}
-use Rattle.words.specs.Choice.{_⇒_⁏_, _and_, _or_, _is_, _isnt_}
+use Rattle.words.specs.Choice.{_and_, _⇒_⁏_, _or_, _is_, _isnt_}
+use Rattle.words.specs.Bounds.{leastRoom}
 use Rattle.words.specs.Bytes.{byte, same}
-use Rattle.card.specs.declared.Chip.{Chip}
-use Rattle.card.specs.declared.Known.the-variants.{Is}
-use Rattle.card.specs.Kinds.{Facts, facts, chipOf}
-use Rattle.card.specs.Counters.{tries}
+use Rattle.codes.specs.Counters.{tries}
+use Rattle.codes.specs.Codes.{codeIn}
+use Rattle.chips.specs.declared.Chip.{Chip}
+use Rattle.chips.specs.declared.Known.the-variants.{Is}
+use Rattle.chips.specs.declared.Facts.{Facts}
+use Rattle.chips.specs.Kinds.{facts, chipOf}
 use Rattle.slot.specs.declared.Slot.{Slot}
-use Rattle.slot.specs.Slots.{imageIsCard, sound}
-use Rattle.memory.specs.Codes.{codeIn}
-use Rattle.steps.specs.declared.Order.{Order}
-use Rattle.steps.specs.Steps.{order, body}
-use Rattle.reader.specs.declared.Fault.{Fault}
-use Rattle.reader.specs.Messages.{Request, PowerOn, PowerOff, SlotStatus, Transfer, Unsupported, typeByte, apdu, requestOf, faultOf, isClear}
-use Rattle.reader.specs.Exchange.{insertion}
+use Rattle.steps.specs.Steps.{body}
+use Rattle.faults.specs.Faults.{isClear, apdu}
+use Rattle.frame.specs.Exchange.{insertion}
+use Rattle.reader.specs.Heard.{faulted, reached}
 use Rattle.reader.specs.Runs.{Sent, Run, sending, run}
 
 -- ---- the history
@@ -30,50 +31,6 @@ pub data Event : Type 0 where
   none : Event
   wrong : Event
   right : Event
-
--- what the message asks for, and what is wrong with it
-abbrev pub requested : Sent → Request
-requested m = requestOf (typeByte (m .message))
-
-abbrev pub faulted : Slot → Sent → Fault
-faulted s m = faultOf (requested m) s (m .message)
-
--- the message is answered (tests 1 to 4), and has no fault
-unfoldable pub heard : Slot → List ℕ → Sent → Bool
-heard s image m =
-    leb 271 (m .room)
-    and leb 10 (length (m .message))
-    and imageIsCard (s .holds) image
-    and sound s image
-    and isClear (faulted s m)
-
--- it is a transfer
-abbrev pub transfers : Request → Bool
-transfers PowerOn = false
-transfers PowerOff = false
-transfers SlotStatus = false
-transfers Transfer = true
-transfers Unsupported = false
-
--- steps 1 to 10 let its command 20 through
-abbrev pub presents : Order → Bool
-presents (Order.Refuse status) = false
-presents Order.Select = false
-presents (Order.Page p) = false
-presents (Order.Read at n) = false
-presents (Order.Counter n) = false
-presents (Order.Bits at n) = false
-presents (Order.Write at) = false
-presents (Order.Protect at) = false
-presents Order.Present = true
-presents Order.Change = false
-
--- "a code reached the card exactly when steps 1 to 10 let its command 20 through"
-unfoldable pub reached : Facts → Slot → List ℕ → Sent → Bool
-reached f s image m =
-    heard s image m
-    and transfers (requested m)
-    and presents (order f s image (apdu (m .message)))
 
 -- the code that the message carries is the one that the card holds
 unfoldable pub rightNow : Facts → List ℕ → Sent → Bool
@@ -88,6 +45,12 @@ eventOf f s image m =
 unfoldable pub history : Facts → Slot → List ℕ → List Sent → List Event
 history f s image [] = []
 history f s image (m ∷ ms) = eventOf f s image m ∷ history f (sending s image m .slot) (sending s image m .image) ms
+
+-- the history of later messages, after those before and one more
+abbrev pub historyAfter : Facts → Slot → List ℕ → List Sent → Sent → List Sent → List Event
+historyAfter f s image before m later =
+    let r = run s image before in
+    history f (sending (r .slot) (r .image) m .slot) (sending (r .slot) (r .image) m .image) later
 
 -- ---- the tries that a history leaves, `full` being all of them
 -- as a fold: a wrong code costs one, "stopping at zero"; a right code that meets a try gives all of them
@@ -160,6 +123,23 @@ runFrom s kind image ms = run (insertion s kind image .slot) (insertion s kind i
 abbrev pub historyFrom : Chip → Slot → ℕ → List ℕ → List Sent → List Event
 historyFrom chip s kind image ms = history (facts chip) (insertion s kind image .slot) (insertion s kind image .image) ms
 
--- "each counted on its own even when equal to the last": what two equal wrong codes in a row cost
-abbrev pub costOfTwo : ℕ
-costOfTwo = 2
+-- ---- what the history looks at
+-- room, length and no fault: nothing of the image
+unfoldable pub unfaulted : Slot → Sent → Bool
+unfaulted s m = leb leastRoom (m .room) and leb 10 (length (m .message)) and isClear (faulted s m)
+
+-- ---- the sentence
+-- "tries left are those it came with, or all of them since the last right code that met a try, less the wrong codes since, stopping at
+-- zero": of a run of messages from a slot and an image, and the image now
+pub data Sentence (f : Facts) (s : Slot) (image : List ℕ) (ms : List Sent) (now : List ℕ) : Type 0 where
+  -- no right code met a try
+  sinceItCame : renewed (triesIn f image) (history f s image ms) ≡ false
+      → triesIn f now ≡ triesIn f image - wrongs (history f s image ms)
+      → Sentence f s image ms now
+  -- the message m brought a right code, which met a try, and no right code met one later
+  sinceRight : (before : List Sent) (m : Sent) (later : List Sent) → ms ≡ before ++ (m ∷ later)
+      → eventOf f (run s image before .slot) (run s image before .image) m ≡ right
+      → triesIn f (run s image before .image) ≢ 0
+      → renewed (tries (f .full)) (historyAfter f s image before m later) ≡ false
+      → triesIn f now ≡ tries (f .full) - wrongs (historyAfter f s image before m later)
+      → Sentence f s image ms now

@@ -1,4 +1,5 @@
-pub mod Messages
-pub mod Exchange
+pub mod Fronts
 pub mod Runs
+pub mod Proper
+pub mod Heard
 pub mod Rules

@@ -2,7 +2,7 @@
 use Prim.Native.Nat.{ℕ}
 use mathlib.Core.List.{List, [], _∷_}
 use Rattle.slot.specs.declared.Slot.{Slot}
-use Rattle.reader.specs.Exchange.{Outcome, exchange}
+use Rattle.frame.specs.Exchange.{Outcome, exchange}
 
 -- a message, and the length of the answer buffer that is lent for it
 pub record Sent : Type 0 where

@@ -6,7 +6,8 @@ use native.Mathlib.Omega.{arith}
 use lib.ListN.{length, take, length-append, List·getD-append}
 use lib.Seq.{length-take-le}
 use lib.Dec.{ltb, leb}
-use borrow.Author.Tests.{ltb-false, le-ltb, lt-leb}
+use borrow.Author.Tests.{ltb-true, ltb-false, leb-true, le-ltb, lt-leb}
+use Rattle.words.specs.Bounds.{largest, longestRecord}
 use Rattle.words.proofs.Choices.{first, rest, either}
 use Rattle.records.specs.declared.Mark.{Mark}
 use Rattle.records.specs.declared.Marked.{Marked}
@@ -61,6 +62,38 @@ pub whole-past : (l : List ℕ) (at : ℕ) {mark : Mark} {start end : ℕ} → r
 whole-past l at e =
     let w = whole-within l at e in
     omega (arith, w .starts, w .ends)
+
+-- ---- room for more
+-- a record that is cut has fewer bytes than the longest whole one, 4 and 32,769, and at the end there is none
+abbrev pub Fewer : List ℕ → ℕ → Record → Type 0
+Fewer l at (Whole mark start end) = Unit {0}
+Fewer l at Cut = length l - at < longestRecord
+Fewer l at Bad = Unit {0}
+Fewer l at End = length l ≤ at
+
+most-bytes : (mark : Mark) → most mark ≤ 1 + largest
+most-bytes Mark.Insert = omega arith
+most-bytes Mark.Remove = omega arith
+most-bytes Mark.Message = omega arith
+
+body-short : (k : Marked) (l : List ℕ) (at : ℕ) → Fewer l at (bodyAt k l at)
+unfolding bodyAt
+body-short (Is mark) l at =
+    either (Fewer l at) (ltb (most mark) (lengthAt l at)) (λ e. tt) (λ e.
+    either (Fewer l at) (ltb (length l - (at + 4)) (lengthAt l at)) (λ f.
+    let p : lengthAt l at ≤ most mark = ltb-false _ _ e in
+    let q : length l - (at + 4) < lengthAt l at = ltb-true _ _ f in
+    omega (arith, p, q, most-bytes mark)) (λ f. tt))
+body-short Other l at = tt
+
+pub record-short : (l : List ℕ) (at : ℕ) → Fewer l at (recordAt l at)
+unfolding recordAt
+record-short l at =
+    either (Fewer l at) (leb (length l) at) (λ e. leb-true _ _ e) (λ e.
+    either (Fewer l at) (ltb (length l - at) 4) (λ f.
+    let p : length l - at < 4 = ltb-true _ _ f in
+    omega arith) (λ f.
+    body-short (markOf (wordAt l at)) l at))
 
 -- ---- more input
 -- a reading that is whole or bad does not depend on what comes behind

@@ -7,32 +7,32 @@ use Rattle.words.specs.Choice.{_⇒_⁏_, _is_}
 use Rattle.words.specs.Bytes.{byte, over}
 use Rattle.slot.specs.declared.Slot.{Slot}
 use Rattle.slot.specs.Slots.{removed}
-use Rattle.reader.specs.Exchange.{Outcome, exchange, insertion}
+use Rattle.frame.specs.Exchange.{Outcome, exchange, insertion}
 use Rattle.records.specs.declared.Mark.{Mark}
 use Rattle.records.specs.declared.Mark.the-variants.{Insert, Remove, Message}
 use Rattle.sitting.specs.declared.Done.{Done}
 
 -- an insertion that is accepted has its card's image held from now on; turned down, what was held stays
-unfoldable pub kept : Outcome → List ℕ → Outcome
-kept o image = record { number = o .number; answer = o .answer; slot = o .slot; image = o .number is 0 ⇒ o .image ⁏ image }
+unfoldable pub holding : Outcome → List ℕ → Outcome
+holding o image = record { number = o .number; answer = o .answer; slot = o .slot; image = o .number is 0 ⇒ o .image ⁏ image }
 
 abbrev pub inserting : Slot → ℕ → List ℕ → List ℕ → Outcome
-inserting s kind card image = kept (insertion s kind card) image
+inserting s kind card image = holding (insertion s kind card) image
 
 -- "Removal always gives the empty sound slot and is never turned down": no image is held
-abbrev pub taken : Outcome
-taken = record { number = 0; answer = []; slot = removed; image = [] }
+abbrev pub takenOut : Outcome
+takenOut = record { number = 0; answer = []; slot = removed; image = [] }
 
 -- "43 49 insert (kind byte, image), 43 4F remove (empty body), 4F 4D message"; "An insert with an empty body counts as one of unknown
 -- kind": its kind byte reads as 0, which is no kind. A new mark is a new line.
-unfoldable pub performed : Mark → List ℕ → Slot → List ℕ → ℕ → Outcome
-performed Insert body s image room = inserting s (byte body 0) (drop 1 body) image
-performed Remove body s image room = taken
-performed Message body s image room = exchange s image body room
+unfoldable pub outcomeOf : Mark → List ℕ → Slot → List ℕ → ℕ → Outcome
+outcomeOf Insert body s image room = inserting s (byte body 0) (drop 1 body) image
+outcomeOf Remove body s image room = takenOut
+outcomeOf Message body s image room = exchange s image body room
 
--- What a record has done where o is to come of it: the number, the answer's length, the next slot, how long the held image is, and every
+-- What a record leaves where o is to come of it: the number, the answer's length, the next slot, how long the held image is, and every
 -- byte of the lent image and of the lent answer buffer: what is held, and the answer, laid over what they held.
-pub record Does (o : Outcome) (r : Done) (had left was holds : List ℕ) : Type 0 where
+pub record Leaves (o : Outcome) (r : Done) (had left was holds : List ℕ) : Type 0 where
   pub number : r .number ≡ o .number
   pub len : r .len ≡ length (o .answer)
   pub slot : r .held .slot ≡ o .slot

@@ -1,18 +1,19 @@
 // A sitting at the reader: one record after another, each done to the slot record and the card image that the last one left.
-// No public function has a `requires`: any record, any body and whatever is held has its one outcome.
+// No offered function has a `requires`: any record, any body and whatever is held has its one outcome.
 
-use reader::Refusal;
-use reader::Verdict;
 use records::Mark;
 use slot::Slot;
+use words::LARGEST;
+use words::ROOM;
 use words::least;
 ghost use mathlib.Core.Path.{_≡_};
 ghost use mathlib.Core.List.{List};
 ghost use Prim.Native.Nat.{ℕ, _≤_};
 ghost use lib.ListN.{length, take};
+ghost use Rattle.words.specs.Bounds.{largest, leastRoom};
 ghost use Rattle.slot.specs.Slots.{removed};
-ghost use Rattle.reader.specs.Exchange.{number, numberOf, answerLength, exchange};
-ghost use Rattle.sitting.specs.Sittings.{inserting, performed, Does};
+ghost use Rattle.frame.specs.Exchange.{exchange};
+ghost use Rattle.sitting.specs.Sittings.{inserting, outcomeOf, Leaves};
 
 // What is held from record to record: the slot record, and how many bytes of the lent image are the card's.
 pub struct Held {
@@ -35,45 +36,15 @@ pub fn start() -> Held
     Held { slot, size: 0 }
 }
 
-fn refusal_number(refusal: Refusal) -> u8
-    ensures { λ r. ⌜ r ≡ numberOf refusal ⌝ }
-{
-    match refusal {
-        Refusal::Buffer => 1,
-        Refusal::Message => 2,
-        Refusal::Image => 3,
-        Refusal::Record => 4,
-        Refusal::Occupied => 5,
-    }
-}
-
-fn number_of(verdict: Verdict) -> u8
-    ensures { λ r. ⌜ r ≡ number verdict ⌝ }
-{
-    match verdict {
-        Verdict::Answered(_) => 0,
-        Verdict::Refused(refusal) => refusal_number(refusal),
-    }
-}
-
-fn length_of(verdict: Verdict) -> usize
-    ensures { λ r. ⌜ r ≡ answerLength verdict ⌝ }
-{
-    match verdict {
-        Verdict::Answered(len) => len,
-        Verdict::Refused(_) => 0,
-    }
-}
-
 // A card of a kind is put in. Only where it is accepted are its bytes laid into the lent image.
 fn put_in(kind: u8, card: &[u8], slot: Slot, size: usize, image: &mut [u8]) -> Done
-    requires { ⌜ (length (now image) ≡ 32768) × (size ≤ 32768) ⌝ }
-    ensures { λ r. ⌜ ((was : List ℕ) → Does (inserting slot kind (now (card .entry)) (take size (now (image .entry)))) r (now (image .entry)) (now (image .exit)) was was) ⌝ }
+    requires { ⌜ (length (now image) ≡ largest) × (size ≤ largest) ⌝ }
+    ensures { λ r. ⌜ ((was : List ℕ) → Leaves (inserting slot kind (now (card .entry)) (take size (now (image .entry)))) r (now (image .entry)) (now (image .exit)) was was) ⌝ }
 {
     let reply = reader::insert(slot, kind, card);
     let verdict = reply.verdict;
     let next = reply.slot;
-    let number = number_of(verdict);
+    let number = verdict.number();
     if number != 0 {
         return Done {
             number,
@@ -94,8 +65,8 @@ fn put_in(kind: u8, card: &[u8], slot: Slot, size: usize, image: &mut [u8]) -> D
 
 // An insert's body is a kind byte and an image; an empty one counts as one of unknown kind, as 0 is.
 fn insert(body: &[u8], slot: Slot, size: usize, image: &mut [u8]) -> Done
-    requires { ⌜ (length (now image) ≡ 32768) × (size ≤ 32768) ⌝ }
-    ensures { λ r. ⌜ ((was : List ℕ) → Does (performed Mark.Insert (now (body .entry)) slot (take size (now (image .entry))) 271) r (now (image .entry)) (now (image .exit)) was was) ⌝ }
+    requires { ⌜ (length (now image) ≡ largest) × (size ≤ largest) ⌝ }
+    ensures { λ r. ⌜ ((was : List ℕ) → Leaves (outcomeOf Mark.Insert (now (body .entry)) slot (take size (now (image .entry))) leastRoom) r (now (image .entry)) (now (image .exit)) was was) ⌝ }
 {
     if body.len() == 0 {
         return put_in(0, body, slot, size, image);
@@ -119,14 +90,14 @@ fn remove(slot: Slot) -> Done
 
 fn message(body: &[u8], slot: Slot, size: usize, image: &mut [u8], answer: &mut [u8]) -> Done
     requires { ⌜ size ≤ length (now image) ⌝ }
-    ensures { λ r. ⌜ Does (exchange slot (take size (now (image .entry))) (now (body .entry)) (length (now (answer .entry)))) r (now (image .entry)) (now (image .exit)) (now (answer .entry)) (now (answer .exit)) ⌝ }
+    ensures { λ r. ⌜ Leaves (exchange slot (take size (now (image .entry))) (now (body .entry)) (length (now (answer .entry)))) r (now (image .entry)) (now (image .exit)) (now (answer .entry)) (now (answer .exit)) ⌝ }
 {
     let reply = reader::message(slot, &mut image[..size], body, answer);
     let verdict = reply.verdict;
     let next = reply.slot;
     Done {
-        number: number_of(verdict),
-        len: length_of(verdict),
+        number: verdict.number(),
+        len: verdict.len(),
         held: Held { slot: next, size },
     }
 }
@@ -136,13 +107,13 @@ pub fn perform(
     mark: Mark,
     body: &[u8],
     held: Held,
-    image: &mut [u8; 32768],
-    answer: &mut [u8; 271],
+    image: &mut [u8; LARGEST],
+    answer: &mut [u8; ROOM],
 ) -> Done
-    ensures { λ r. ⌜ Does (performed mark (now (body .entry)) (held .slot) (take (held .size) (now (image .entry))) 271) r (now (image .entry)) (now (image .exit)) (now (answer .entry)) (now (answer .exit)) ⌝ }
+    ensures { λ r. ⌜ Leaves (outcomeOf mark (now (body .entry)) (held .slot) (take (held .size) (now (image .entry))) leastRoom) r (now (image .entry)) (now (image .exit)) (now (answer .entry)) (now (answer .exit)) ⌝ }
 {
     let slot = held.slot;
-    let size = least(held.size, 32768);
+    let size = least(held.size, LARGEST);
     match mark {
         Mark::Insert => insert(body, slot, size, image),
         Mark::Remove => remove(slot),

@@ -1,12 +1,8 @@
--- The slot record: what it holds, when it is sound, and its changes. A record is written out here and nowhere else.
+-- The slot record: what it holds, and its changes. A record is written out here and nowhere else.
 use Prim.Native.Nat.{ℕ}
-use mathlib.Core.Bool.{Bool, true, false, not}
-use mathlib.Core.List.{List}
-use Rattle.words.specs.Choice.{_and_, _or_, _means_, _is_}
-use Rattle.words.specs.Bytes.{byte}
-use Rattle.card.specs.declared.Chip.{Chip}
-use Rattle.card.specs.Kinds.{facts}
-use Rattle.card.specs.Images.{isCard}
+use mathlib.Core.Bool.{Bool, true, false}
+use Rattle.chips.specs.declared.Chip.{Chip}
+use Rattle.chips.specs.Kinds.{facts}
 use Rattle.slot.specs.declared.Holds.{Holds}
 use Rattle.slot.specs.declared.Holds.the-variants.{Empty, Card}
 use Rattle.slot.specs.declared.Slot.{Slot}
@@ -21,64 +17,46 @@ abbrev pub ownType : Holds → ℕ
 ownType Empty = 0
 ownType (Card chip) = facts chip .selects
 
--- a code card with a full counter
-abbrev pub fullCode : Holds → List ℕ → Bool
-fullCode Empty image = false
-fullCode (Card chip) image = facts chip .coded and byte image (facts chip .counter) is facts chip .full
-
--- the image is one of the card; "With no card the image is not looked at"
-abbrev pub imageIsCard : Holds → List ℕ → Bool
-imageIsCard Empty image = true
-imageIsCard (Card chip) image = isCard (facts chip) image
-
--- "page size is 8, 16, 32, 64 or 128"
-unfoldable pub pageSize : ℕ → Bool
-pageSize p = p is 8 or p is 16 or p is 32 or p is 64 or p is 128
-
--- "no card means inactive and page 8"
-unfoldable pub emptySound : Slot → Bool
-emptySound s = not (occupied (s .holds)) means not (s .active) and s .page is 8
-
--- "inactive means no type and closed"
-unfoldable pub idleSound : Slot → Bool
-idleSound s = not (s .active) means s .selected is 0 and not (s .«open»)
-
--- "a selected type is the kind's own"
-unfoldable pub typeSound : Slot → Bool
-typeSound s = s .selected is 0 or s .selected is ownType (s .holds)
-
--- "open means a code card with its type selected and a full counter"
-unfoldable pub openSound : Slot → List ℕ → Bool
-openSound s image = s .«open» means fullCode (s .holds) image and s .selected is ownType (s .holds)
-
--- "It is sound when": all five hold.
-unfoldable pub sound : Slot → List ℕ → Bool
-sound s image = pageSize (s .page) and emptySound s and idleSound s and typeSound s and openSound s image
-
 -- ---- the changes
+-- a record of its fields, and a record with one field changed; every other change is made of these
+abbrev pub slotted : Holds → Bool → ℕ → ℕ → Bool → Slot
+slotted h on t p o = record { holds = h; active = on; selected = t; page = p; «open» = o }
+
+abbrev pub activeAs : Bool → Slot → Slot
+activeAs on s = slotted (s .holds) on (s .selected) (s .page) (s .«open»)
+
+abbrev pub typeAs : ℕ → Slot → Slot
+typeAs t s = slotted (s .holds) (s .active) t (s .page) (s .«open»)
+
+abbrev pub pageAs : ℕ → Slot → Slot
+pageAs p s = slotted (s .holds) (s .active) (s .selected) p (s .«open»)
+
+abbrev pub openAs : Bool → Slot → Slot
+openAs o s = slotted (s .holds) (s .active) (s .selected) (s .page) o
+
 -- "Insertion gives: inactive, no type, page 8, closed"
 abbrev pub inserted : Chip → Slot
-inserted chip = record { holds = Card chip; active = false; selected = 0; page = 8; «open» = false }
+inserted chip = slotted (Card chip) false 0 8 false
 
 -- "Removal always gives the empty sound slot"
 abbrev pub removed : Slot
-removed = record { holds = Empty; active = false; selected = 0; page = 8; «open» = false }
+removed = slotted Empty false 0 8 false
 
 -- "Power on: active, no type, closed"; "Power off: inactive, no type, closed. Page size survives both"
 abbrev pub powered : Bool → Slot → Slot
-powered on s = record { holds = s .holds; active = on; selected = 0; page = s .page; «open» = false }
+powered on s = activeAs on (typeAs 0 (openAs false s))
 
 -- "A4: selects the type, closes"
 abbrev pub selecting : ℕ → Slot → Slot
-selecting t s = record { holds = s .holds; active = s .active; selected = t; page = s .page; «open» = false }
+selecting t s = typeAs t (openAs false s)
 
 -- "01: page 8, 16, 32, 64, 128"
 abbrev pub paged : ℕ → Slot → Slot
-paged p s = record { holds = s .holds; active = s .active; selected = s .selected; page = p; «open» = s .«open» }
+paged p s = pageAs p s
 
 -- "Equal: counter full, open. Not: closed"
 abbrev pub opened : Slot → Slot
-opened s = record { holds = s .holds; active = s .active; selected = s .selected; page = s .page; «open» = true }
+opened s = openAs true s
 
 abbrev pub closed : Slot → Slot
-closed s = record { holds = s .holds; active = s .active; selected = s .selected; page = s .page; «open» = false }
+closed s = openAs false s

@@ -1,25 +1,30 @@
--- The decision taken apart once: an order refuses, or every step let the command through; and what an order that is let through may count on.
+-- The decision taken apart once: an order refuses, or every step let the command through; its converse; and what an order that is let
+-- through may count on.
 use Prim.Native.Nat.{ℕ, _+_, _^_, _≤_, _<_}
-use mathlib.Core.Path.{_≡_, sym, ap, _∙_}
+use mathlib.Core.Path.{_≡_, refl, sym, ap, _∙_}
 use mathlib.Core.List.{List}
 use mathlib.Core.Bool.{Bool, true, false, not}
 use mathlib.Core.Logic.{_⊎_, inl, inr}
 use native.Mathlib.Omega.{arith}
 use lib.ListN.{length, length-drop}
 use lib.Dec.{leb, ltb}
-use borrow.Author.Tests.{eqb-true, eq-eqb, leb-true, ltb-true, le-ltb, not-false}
+use borrow.Author.Tests.{eqb-true, eq-eqb, leb-true, ltb-true, ltb-false, le-ltb, not-false}
 use Rattle.words.specs.Choice.{_⇒_⁏_, _and_, _or_, _is_}
 use Rattle.words.specs.Bytes.{byte}
 use Rattle.words.proofs.Choices.{past, either, rest, and-true, or-true}
-use Rattle.card.specs.Kinds.{Facts}
+use Rattle.chips.specs.declared.Facts.{Facts}
 use Rattle.slot.specs.declared.Slot.{Slot}
 use Rattle.steps.specs.declared.Status.{Status}
 use Rattle.steps.specs.declared.Order.{Order}
 use Rattle.steps.specs.Fits.{Fit, Short}
 use Rattle.steps.specs.Steps.{Ins, Select, Page, Read, Counter, Bits, Write, Protect, Present, Change, Other, insOf, place, p3, body, known, needsType, has, following, lengthFits, placeFits, valueFits, needsOpen, hitsProtected, ordered, steps, order}
+use Rattle.steps.proofs.StepLaws.{Past3, Past9, past3, past4-ready, past5, past6, pastP3, past7, past8, past9-ready, past10}
 
--- every step passed
+-- every step passed, INS being i
 pub record Passed (f : Facts) (s : Slot) (image d : List ℕ) (i : Ins) : Type 0 where
+  pub five : 5 ≤ length d
+  pub class : byte d 0 ≡ 0xFF
+  pub ins : insOf (byte d 1) ≡ i
   pub isKnown : known i ≡ true
   pub ready : needsType i and s .selected is 0 ≡ false
   pub had : has f i ≡ true
@@ -49,6 +54,9 @@ decided f s image d =
     past (Decided f s image d) _ (refused Status.Denied) (λ e9.
     past (Decided f s image d) _ (refused Status.Denied) (λ e10.
     through (insOf (byte d 1)) (record {
+      five = ltb-false _ _ e1;
+      class = eqb-true _ _ (not-false _ e2);
+      ins = refl;
       isKnown = not-false _ e3;
       ready = e4;
       had = not-false _ e5;
@@ -60,11 +68,28 @@ decided f s image d =
       free = e10;
     }))))))))))))
 
+-- past the first two steps the rest decide
+pub order-on : (f : Facts) (s : Slot) (image d : List ℕ) → 5 ≤ length d → byte d 0 ≡ 0xFF
+    → order f s image d ≡ steps f s image (length d) (place d) (p3 d) (byte d 5) (insOf (byte d 1))
+unfolding order
+order-on f s image d h e = rest _ _ (le-ltb (length d) 5 h) ∙ rest _ _ (ap not (eq-eqb _ 0xFF e))
+
+-- the converse: passing every step gives the order
+pub passed-order : {f : Facts} {s : Slot} {image d : List ℕ} {i : Ins} → Passed f s image d i → order f s image d ≡ ordered i (place d) (p3 d) (byte d 5)
+passed-order {f} {s} {image} {d} {i} q =
+    let n : ℕ = length d in
+    let on : Past3 f s n (place d) (p3 d) i = past3 (q .isKnown) in
+    let kept : Past9 f s n (place d) (p3 d) i (byte d 5) =
+    past9-ready (past8 (past7 (pastP3 (past6 (past5 (past4-ready on (q .ready)) (q .had)) (q .long)) (q .measured)) (q .placed)) (byte d 5) (q .valued)) (q .allowed) in
+    order-on f s image d (q .five) (q .class)
+    ∙ ap (steps f s image n (place d) (p3 d) (byte d 5)) (q .ins)
+    ∙ sym (past10 kept image (q .free))
+
 body-length : (d : List ℕ) (n : ℕ) → length d ≡ 5 + n → length (body d) ≡ n
 body-length d n e = omega (arith, length-drop 5 d)
 
-pub page-range : (v : ℕ) → leb 3 v and leb v 7 ≡ true → (8 ≤ 2 ^ v) × (2 ^ v ≤ 128)
-page-range v e = go v (leb-true _ _ (and-true _ _ e .0)) (leb-true _ _ (and-true _ _ e .1))
+page-bounds : (v : ℕ) → leb 3 v and leb v 7 ≡ true → (8 ≤ 2 ^ v) × (2 ^ v ≤ 128)
+page-bounds v e = go v (leb-true _ _ (and-true _ _ e .0)) (leb-true _ _ (and-true _ _ e .1))
   where
     go : (v : ℕ) → 3 ≤ v → v ≤ 7 → (8 ≤ 2 ^ v) × (2 ^ v ≤ 128)
     go v h k = (lib.Pow.pow-mono h, lib.Pow.pow-mono k)
@@ -85,7 +110,7 @@ module _ (f : Facts) (s : Slot) (image d : List ℕ) where
 
   fit-passed : (i : Ins) → Passed f s image d i → Fit f (body d) (ordered i (place d) (p3 d) (byte d 5))
   fit-passed Select p = tt
-  fit-passed Page p = page-range (byte d 5) (p .valued)
+  fit-passed Page p = page-bounds (byte d 5) (p .valued)
   fit-passed Read p = (leb-true _ _ (p .placed), leb-true _ _ (p .measured))
   fit-passed Counter p = (p .had, eqb-true _ _ (p .measured))
   fit-passed Bits p = (leb-true _ _ (p .placed), few (p3 d) (p .measured))
@@ -124,12 +149,6 @@ module _ (f : Facts) (s : Slot) (image d : List ℕ) where
   -- and is short, P3 being a byte
   pub order-short : p3 d < 256 → Short (order f s image d)
   order-short h = short-decided h (decided f s image d)
-
--- past the first two steps the rest decide
-pub order-on : (f : Facts) (s : Slot) (image d : List ℕ) → 5 ≤ length d → byte d 0 ≡ 0xFF
-    → order f s image d ≡ steps f s image (length d) (place d) (p3 d) (byte d 5) (insOf (byte d 1))
-unfolding order
-order-on f s image d h e = rest _ _ (le-ltb (length d) 5 h) ∙ rest _ _ (ap not (eq-eqb _ 0xFF e))
 
 -- the numbers of the pseudo-APDU are those that the steps were given
 pub order-at : (f : Facts) (s : Slot) (image d : List ℕ) (at p v : ℕ) (i : Ins) {r : Order} → 5 ≤ length d → byte d 0 ≡ 0xFF

@@ -1,63 +1,64 @@
 -- A command 20 that is let through once is let through again: the steps look at neither the image, nor whether the card is open, but only
 -- at the selected type.
-use mathlib.Core.Path.{_≡_, refl, _∙_, subst⁻¹}
+use mathlib.Core.Path.{_≡_, refl, sym, ap, _∙_, subst⁻¹}
+use mathlib.Core.Bool.{true, false≢true}
 use mathlib.Core.List.{List}
 use Prim.Native.Nat.{ℕ}
-use native.Mathlib.Omega.{arith}
-use Rattle.words.specs.Choice.{_and_}
-use Rattle.words.specs.Bytes.{byte}
-use Rattle.words.proofs.Choices.{past, alike}
-use Rattle.card.specs.Kinds.{Facts}
+use Rattle.words.specs.Choice.{_and_, _is_}
+use Rattle.words.proofs.Choices.{and-fails}
+use Rattle.chips.specs.declared.Facts.{Facts}
 use Rattle.slot.specs.declared.Slot.{Slot}
-use Rattle.steps.specs.declared.Status.{Status}
 use Rattle.steps.specs.declared.Order.{Order}
-use lib.ListN.{length}
-use Rattle.steps.specs.Steps.{Ins, Select, Page, Read, Counter, Bits, Write, Protect, Present, Change, Other, insOf, place, p3, ordered, steps, order}
+use Rattle.steps.specs.Steps.{Ins, Select, Page, Read, Counter, Bits, Write, Protect, Present, Change, Other, needsType, ordered, presents, order}
+use Rattle.steps.proofs.Decisions.{Passed, Decided, refused, through, decided, passed-order}
+
+-- a test of an order that holds for a presented code alone
+pub presents-is : (o : Order) → presents o ≡ true → o ≡ Order.Present
+presents-is (Order.Refuse status) e = absurd (false≢true e)
+presents-is Order.Select e = absurd (false≢true e)
+presents-is (Order.Page p) e = absurd (false≢true e)
+presents-is (Order.Read at n) e = absurd (false≢true e)
+presents-is (Order.Counter n) e = absurd (false≢true e)
+presents-is (Order.Bits at n) e = absurd (false≢true e)
+presents-is (Order.Write at) e = absurd (false≢true e)
+presents-is (Order.Protect at) e = absurd (false≢true e)
+presents-is Order.Present e = refl
+presents-is Order.Change e = absurd (false≢true e)
 
 -- only INS 20 ends in a presented code
-ordered-present : (i : Ins) (at n v : ℕ) → ordered i at n v ≡ Order.Present → i ≡ Present
-ordered-present Select at n v e = absurd (let z : _≡_ {A = ℕ} 0 1 = cc in omega arith)
-ordered-present Page at n v e = absurd (let z : _≡_ {A = ℕ} 0 1 = cc in omega arith)
-ordered-present Read at n v e = absurd (let z : _≡_ {A = ℕ} 0 1 = cc in omega arith)
-ordered-present Counter at n v e = absurd (let z : _≡_ {A = ℕ} 0 1 = cc in omega arith)
-ordered-present Bits at n v e = absurd (let z : _≡_ {A = ℕ} 0 1 = cc in omega arith)
-ordered-present Write at n v e = absurd (let z : _≡_ {A = ℕ} 0 1 = cc in omega arith)
-ordered-present Protect at n v e = absurd (let z : _≡_ {A = ℕ} 0 1 = cc in omega arith)
-ordered-present Present at n v e = refl
-ordered-present Change at n v e = absurd (let z : _≡_ {A = ℕ} 0 1 = cc in omega arith)
-ordered-present Other at n v e = absurd (let z : _≡_ {A = ℕ} 0 1 = cc in omega arith)
-
-record Twenty (i : Ins) (o : Order) : Type 0 where
-  twenty : o ≡ Order.Present → i ≡ Present
-
-refused : (i : Ins) (status : Status) → Twenty i (Order.Refuse status)
-refused i status = record { twenty = λ e. absurd (let z : _≡_ {A = ℕ} 0 1 = cc in omega arith) }
-
-module _ (f : Facts) (s : Slot) (image d : List ℕ) where
-  steps-twenty : (i : Ins) → Twenty i (steps f s image (length d) (place d) (p3 d) (byte d 5) i)
-  unfolding steps
-  steps-twenty i =
-      past (Twenty i) _ (refused i _) (λ _. past (Twenty i) _ (refused i _) (λ _. past (Twenty i) _ (refused i _) (λ _.
-      past (Twenty i) _ (refused i _) (λ _. past (Twenty i) _ (refused i _) (λ _. past (Twenty i) _ (refused i _) (λ _.
-      past (Twenty i) _ (refused i _) (λ _. past (Twenty i) _ (refused i _) (λ _. past (Twenty i) _ (refused i _) (λ _.
-      record { twenty = ordered-present i (place d) (p3 d) (byte d 5) })))))))))
-
-  order-twenty : Twenty (insOf (byte d 1)) (order f s image d)
-  unfolding order
-  order-twenty =
-      let i : Ins = insOf (byte d 1) in
-      past (Twenty i) _ (refused i _) (λ _. past (Twenty i) _ (refused i _) (λ _. steps-twenty i))
+ordered-presents : (i : Ins) (at n v : ℕ) → presents (ordered i at n v) ≡ true → i ≡ Present
+ordered-presents Select at n v e = absurd (false≢true e)
+ordered-presents Page at n v e = absurd (false≢true e)
+ordered-presents Read at n v e = absurd (false≢true e)
+ordered-presents Counter at n v e = absurd (false≢true e)
+ordered-presents Bits at n v e = absurd (false≢true e)
+ordered-presents Write at n v e = absurd (false≢true e)
+ordered-presents Protect at n v e = absurd (false≢true e)
+ordered-presents Present at n v e = refl
+ordered-presents Change at n v e = absurd (false≢true e)
+ordered-presents Other at n v e = absurd (false≢true e)
 
 module _ (f : Facts) (s s′ : Slot) (image image′ d : List ℕ) (type : s′ .selected ≡ s .selected) where
-  present-alike : steps f s′ image′ (length d) (place d) (p3 d) (byte d 5) Present ≡ steps f s image (length d) (place d) (p3 d) (byte d 5) Present
-  unfolding steps _and_
-  present-alike = cc
+  -- what it passed it passes again
+  passed-again : Passed f s image d Present → Passed f s′ image′ d Present
+  passed-again q = record {
+    five = q .five;
+    class = q .class;
+    ins = q .ins;
+    isKnown = q .isKnown;
+    ready = ap (λ (t : ℕ). needsType Present and t is 0) type ∙ q .ready;
+    had = q .had;
+    long = q .long;
+    measured = q .measured;
+    placed = q .placed;
+    valued = q .valued;
+    allowed = sym (and-fails _ refl);
+    free = refl;
+  }
 
-  order-alike : insOf (byte d 1) ≡ Present → order f s′ image′ d ≡ order f s image d
-  unfolding order
-  order-alike e =
-      alike _ (λ _. refl) (λ _. alike _ (λ _. refl) (λ _.
-      subst⁻¹ (λ (i : Ins). steps f s′ image′ (length d) (place d) (p3 d) (byte d 5) i ≡ steps f s image (length d) (place d) (p3 d) (byte d 5) i) e present-alike))
-
-  pub present-again : order f s image d ≡ Order.Present → order f s′ image′ d ≡ Order.Present
-  present-again e = order-alike (order-twenty f s image d .twenty e) ∙ e
+  pub present-again : presents (order f s image d) ≡ true → order f s′ image′ d ≡ Order.Present
+  present-again e = go (decided f s image d) e
+    where
+      go : {o : Order} → Decided f s image d o → presents o ≡ true → order f s′ image′ d ≡ Order.Present
+      go (refused status) h = absurd (false≢true h)
+      go (through i q) h = passed-order (passed-again (subst⁻¹ (Passed f s image d) (sym (ordered-presents i _ _ _ h)) q))

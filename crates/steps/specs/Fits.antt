@@ -6,7 +6,7 @@ use mathlib.Core.Bool.{true}
 use mathlib.Core.List.{List}
 use mathlib.Core.Logic.{_⊎_}
 use lib.ListN.{length}
-use Rattle.card.specs.Kinds.{Facts}
+use Rattle.chips.specs.declared.Facts.{Facts}
 use Rattle.steps.specs.declared.Order.{Order}
 
 -- the order's range lies on the card, with the data b after P3

@@ -6,10 +6,10 @@ use lib.ListN.{length, drop}
 use lib.Dec.{ltb, leb}
 use Rattle.words.specs.Choice.{_⇒_⁏_, _and_, _or_, _is_, _isnt_}
 use Rattle.words.specs.Bytes.{byte}
-use Rattle.card.specs.Kinds.{Facts}
-use Rattle.card.specs.Protection.{firstProtected}
-use Rattle.card.specs.declared.Place.{Place}
-use Rattle.card.specs.declared.Place.the-variants.{At, Nowhere}
+use Rattle.chips.specs.declared.Facts.{Facts}
+use Rattle.bits.specs.Bits.{firstProtected}
+use Rattle.bits.specs.declared.Place.{Place}
+use Rattle.bits.specs.declared.Place.the-variants.{At, Nowhere}
 use Rattle.slot.specs.declared.Slot.{Slot}
 use Rattle.steps.specs.declared.Status.{Status}
 use Rattle.steps.specs.declared.Order.{Order}
@@ -216,3 +216,16 @@ order f s image d =
     ltb (length d) 5 ⇒ Order.Refuse Status.Length
     ⁏ byte d 0 isnt 0xFF ⇒ Order.Refuse Status.Class
     ⁏ steps f s image (length d) (place d) (p3 d) (byte d 5) (insOf (byte d 1))
+
+-- "steps 1 to 10 let its command 20 through"
+abbrev pub presents : Order → Bool
+presents (Order.Refuse status) = false
+presents Order.Select = false
+presents (Order.Page p) = false
+presents (Order.Read at n) = false
+presents (Order.Counter n) = false
+presents (Order.Bits at n) = false
+presents (Order.Write at) = false
+presents (Order.Protect at) = false
+presents Order.Present = true
+presents Order.Change = false

@@ -44,6 +44,12 @@ unfolding _⇒_⁏_
 alike true f g = f refl
 alike false f g = g refl
 
+-- What is made of a choice is the choice of what is made of its branches.
+pub choice-ap : {A B : Type 0} (f : A → B) (b : Bool) (x y : A) → f (b ⇒ x ⁏ y) ≡ (b ⇒ f x ⁏ f y)
+unfolding _⇒_⁏_
+choice-ap f true x y = refl
+choice-ap f false x y = refl
+
 -- Tests taken apart.
 pub and-true : (a b : Bool) → a and b ≡ true → (a ≡ true) × (b ≡ true)
 unfolding _and_

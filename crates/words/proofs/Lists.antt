@@ -4,16 +4,16 @@ use mathlib.Core.List.{List, [], _∷_, _++_, append-assoc, append-nil}
 use mathlib.Core.Bool.{Bool, true, false}
 use mathlib.Core.Logic.{_⊎_, inl, inr}
 use Prim.Native.Nat.{ℕ, zero, suc, _+_, _-_, _*_, _≤_, _<_, min}
-use native.Mathlib.Nat.{zero-add, not-suc-le-zero, le-of-suc-le-suc, add-suc, suc-add, add-zero, mul-suc}
+use native.Mathlib.Nat.{add-comm, zero-add, not-suc-le-zero, le-of-suc-le-suc, add-suc, suc-add, add-zero, mul-suc}
 use native.Mathlib.Numerals.{add-one}
 use native.Mathlib.Omega.{arith}
 use lib.ListN.{length, take, drop, set, getD, length-append, length-drop, drop-of-length-le, take-append-drop}
-use lib.Seq.{length-take-le, set-at, drop-cons, drop-drop, drop-at, append-snoc, take-at, take-all, take-append-seam, drop-set-lt, sets, getD-set-other}
+use lib.Seq.{length-take-le, set-at, drop-cons, drop-drop, drop-at, append-snoc, take-at, take-all, take-append-seam, drop-set-lt, sets, getD-set-other, getD-append-add, getD-drop, take-add}
 use lib.Dec.{ltb}
 use borrow.Rule.Slice.PartMut.{putMid}
 use borrow.Author.Tests.{eq-eqb, ne-eqb, eqb-true, ltb-true, ltb-false}
 use Rattle.words.specs.Choice.{_and_, _is_}
-use Rattle.words.specs.Bytes.{byte, same, fourAt, over, run}
+use Rattle.words.specs.Bytes.{byte, same, fourAt, over, series}
 use Rattle.words.proofs.Choices.{and-fails, and-holds, and-true}
 
 -- ---- bytes over a buffer
@@ -26,6 +26,21 @@ copy-suc (suc i) (x ∷ s) (y ∷ d) h k = ap (λ (t : List ℕ). x ∷ t) (copy
 
 pub copy-more : (i : ℕ) (s d : List ℕ) → i < length s → i < length d → set (take i s ++ drop i d) i (getD s i 0) ≡ take (i + 1) s ++ drop (i + 1) d
 copy-more i s d h k = rw (add-one i) (copy-suc i s d h k)
+
+-- a loop that slides bytes to the front: one turn, which reads ahead of what it has written
+pub slide-more : (at i : ℕ) (d : List ℕ) {l : List ℕ} → at + i < length d → l ≡ take i (drop at d) ++ drop i d
+    → set l i (getD l (at + i) 0) ≡ take (i + 1) (drop at d) ++ drop (i + 1) d
+slide-more at i d {l} h e =
+    let s : List ℕ = drop at d in
+    let k : i < length s = omega (arith, length-drop at d) in
+    let t : length (take i s) ≡ i = length-take-le i s (omega arith) in
+    let n : at + i ≡ length (take i s) + at = omega (arith, t) in
+    let r : getD (take i s ++ drop i d) (at + i) 0 ≡ getD s i 0 =
+    ap (λ (m : ℕ). getD (take i s ++ drop i d) m 0) n ∙ getD-append-add (take i s) (drop i d) at 0 ∙ getD-drop i d at 0
+    ∙ ap (λ (m : ℕ). getD d m 0) (add-comm i at) ∙ sym (getD-drop at d i 0) in
+    ap (λ (x : List ℕ). set x i (getD x (at + i) 0)) e
+    ∙ ap (set (take i s ++ drop i d) i) r
+    ∙ copy-more i s d k (omega arith)
 
 pub over-none : (d : List ℕ) → over [] d ≡ d
 unfolding over
@@ -80,6 +95,10 @@ pub front-over : (b d : List ℕ) → take (length b) (over b d) ≡ b
 unfolding over
 front-over b d = take-append-seam b (drop (length b) d)
 
+-- and so they are where so many are taken
+pub front-laid : (d : List ℕ) {b h : List ℕ} {n : ℕ} → n ≡ length b → h ≡ over b d → take n h ≡ b
+front-laid d {b} e p = ap₂ take e p ∙ front-over b d
+
 -- bytes behind bytes
 over-more : (n : ℕ) (b c d : List ℕ) → length b ≡ n → take n (over b d) ++ over c (drop n (over b d)) ≡ over (b ++ c) d
 unfolding over
@@ -91,33 +110,33 @@ over-more n b c d e =
     ∙ ap (λ (k : ℕ). (b ++ c) ++ drop k d) (sym (length-append b c))
 
 -- ---- runs
-pub length-run : (f : ℕ → ℕ) (k n : ℕ) → length (run f k n) ≡ n
-unfolding run
-length-run f k zero = refl
-length-run f k (suc n) = ap suc (length-run f (suc k) n)
+pub length-series : (f : ℕ → ℕ) (k n : ℕ) → length (series f k n) ≡ n
+unfolding series
+length-series f k zero = refl
+length-series f k (suc n) = ap suc (length-series f (suc k) n)
 
-run-suc : (f : ℕ → ℕ) (k n : ℕ) → run f k (suc n) ≡ run f k n ++ (f (k + n) ∷ [])
-unfolding run
-run-suc f k zero = ap (λ (m : ℕ). f m ∷ []) (sym (add-zero k))
-run-suc f k (suc n) = ap (λ (t : List ℕ). f k ∷ t) (run-suc f (suc k) n ∙ ap (λ (m : ℕ). run f (suc k) n ++ (f m ∷ [])) (suc-add k n ∙ sym (add-suc k n)))
+series-suc : (f : ℕ → ℕ) (k n : ℕ) → series f k (suc n) ≡ series f k n ++ (f (k + n) ∷ [])
+unfolding series
+series-suc f k zero = ap (λ (m : ℕ). f m ∷ []) (sym (add-zero k))
+series-suc f k (suc n) = ap (λ (t : List ℕ). f k ∷ t) (series-suc f (suc k) n ∙ ap (λ (m : ℕ). series f (suc k) n ++ (f m ∷ [])) (suc-add k n ∙ sym (add-suc k n)))
 
 -- a loop that fills from the front by a rule: one turn
-pub run-more : (f : ℕ → ℕ) (k n : ℕ) (d : List ℕ) → n < length d → set (over (run f k n) d) n (f (k + n)) ≡ over (run f k (n + 1)) d
-run-more f k n d h =
-    over-snoc (run f k n) d (f (k + n)) n (length-run f k n) h
-    ∙ ap (λ (t : List ℕ). over t d) (sym (ap (run f k) (add-one n) ∙ run-suc f k n))
+pub series-more : (f : ℕ → ℕ) (k n : ℕ) (d : List ℕ) → n < length d → set (over (series f k n) d) n (f (k + n)) ≡ over (series f k (n + 1)) d
+series-more f k n d h =
+    over-snoc (series f k n) d (f (k + n)) n (length-series f k n) h
+    ∙ ap (λ (t : List ℕ). over t d) (sym (ap (series f k) (add-one n) ∙ series-suc f k n))
 
-pub run-next : (f : ℕ → ℕ) (n : ℕ) (d : List ℕ) → n < length d → set (over (run f 0 n) d) n (f n) ≡ over (run f 0 (n + 1)) d
-run-next f n d h = ap (λ (m : ℕ). set (over (run f 0 n) d) n (f m)) (sym (zero-add n)) ∙ run-more f 0 n d h
+pub series-next : (f : ℕ → ℕ) (n : ℕ) (d : List ℕ) → n < length d → set (over (series f 0 n) d) n (f n) ≡ over (series f 0 (n + 1)) d
+series-next f n d h = ap (λ (m : ℕ). set (over (series f 0 n) d) n (f m)) (sym (zero-add n)) ∙ series-more f 0 n d h
 
 -- a run that follows a list is that part of the list
-pub run-part : (f : ℕ → ℕ) (s k n : ℕ) (l : List ℕ) → k + n ≤ length l → ((j : ℕ) → j < n → f (s + j) ≡ byte l (k + j)) → run f s n ≡ take n (drop k l)
-unfolding run
-run-part f s k zero l h e = refl
-run-part f s k (suc n) l h e =
+pub series-part : (f : ℕ → ℕ) (s k n : ℕ) (l : List ℕ) → k + n ≤ length l → ((j : ℕ) → j < n → f (s + j) ≡ byte l (k + j)) → series f s n ≡ take n (drop k l)
+unfolding series
+series-part f s k zero l h e = refl
+series-part f s k (suc n) l h e =
     let here : f s ≡ byte l k = ap f (sym (add-zero s)) ∙ e 0 (omega arith) ∙ ap (byte l) (add-zero k) in
-    let later : run f (suc s) n ≡ take n (drop (suc k) l) =
-    run-part f (suc s) (suc k) n l (omega arith) (λ j b.
+    let later : series f (suc s) n ≡ take n (drop (suc k) l) =
+    series-part f (suc s) (suc k) n l (omega arith) (λ j b.
     let p : suc s + j ≡ s + suc j = omega arith in
     let q : k + suc j ≡ suc k + j = omega arith in
     ap f p ∙ e (suc j) (omega arith) ∙ ap (byte l) q) in
@@ -156,6 +175,15 @@ byte-sets l i (v ∷ vs) k (inr h) = byte-sets (set l i v) (suc i) vs k (inr (om
 pub sets-snoc : (l : List ℕ) (i : ℕ) (vs : List ℕ) (v : ℕ) → sets l i (vs ++ (v ∷ [])) ≡ set (sets l i vs) (i + length vs) v
 sets-snoc l i [] v = ap (λ (n : ℕ). set l n v) (sym (add-zero i))
 sets-snoc l i (w ∷ vs) v = sets-snoc (set l i w) (suc i) vs v ∙ ap (λ (n : ℕ). set (sets (set l i w) (suc i) vs) n v) (omega arith)
+
+-- ---- parts
+-- what is left of the first k behind the first s
+pub drop-take : (s k : ℕ) (l : List ℕ) → s ≤ k → k ≤ length l → drop s (take k l) ≡ take (k - s) (drop s l)
+drop-take s k l h w =
+    let e : k ≡ s + (k - s) = omega arith in
+    ap (λ (n : ℕ). drop s (take n l)) e
+    ∙ ap (drop s) (take-add s (k - s) l)
+    ∙ drop-at (take s l) (take (k - s) (drop s l)) s (length-take-le s l (omega arith))
 
 -- ---- the same bytes
 pub same-step : (a b : List ℕ) (i : ℕ) → i < length a → i < length b → same (drop i a) (drop i b) ≡ (byte a i is byte b i and same (drop (i + 1) a) (drop (i + 1) b))

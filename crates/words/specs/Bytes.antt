@@ -32,6 +32,6 @@ unfoldable pub over : List ℕ → List ℕ → List ℕ
 over bytes buffer = bytes ++ drop (length bytes) buffer
 
 -- f k, f (k + 1), .., n of them
-unfoldable pub run : (ℕ → ℕ) → ℕ → ℕ → List ℕ
-run f k zero = []
-run f k (suc n) = f k ∷ run f (suc k) n
+unfoldable pub series : (ℕ → ℕ) → ℕ → ℕ → List ℕ
+series f k zero = []
+series f k (suc n) = f k ∷ series f (suc k) n

@@ -2,10 +2,21 @@
 // Each says the one result it gives; those that write into a lent buffer ask that the bytes fit.
 
 ghost use mathlib.Core.Path.{_≡_};
-ghost use Prim.Native.Nat.{ℕ, _+_, _≤_, _<_, min};
-ghost use mathlib.Core.List.{[], _∷_, _++_};
+ghost use Prim.Native.Nat.{_+_, _≤_, _<_, min};
 ghost use lib.ListN.{length, set};
 ghost use Rattle.words.specs.Bytes.{byte, same, fourAt, eightAt, over};
+
+// The smallest answer buffer that is not turned down.
+pub const ROOM: usize = 271;
+
+// The bytes of the largest card.
+pub const LARGEST: usize = 32768;
+
+// The bytes of the longest whole record of a session.
+pub const RECORD: usize = 32773;
+
+// The bytes of the longest line that a session could print.
+pub const LINE: usize = 549;
 
 // A byte as a wider number.
 pub fn wide(b: u8) -> usize

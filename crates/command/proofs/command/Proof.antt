@@ -1,25 +1,21 @@
 -- `command` meets its contract: the order that is performed is the one that the steps end in.
 use borrow.Author.Needs.{needs}
-use Rattle.command.proofs.Lengths.{said-short}
-use mathlib.Core.Path.{sym, subst}
+use mathlib.Core.Path.{sym, subst, subst⁻¹}
 use native.Mathlib.Omega.{arith}
 use Prim.Native.Nat.{ℕ, _≤_}
 use borrow.Author.Tests.{lt-ltb}
 use lib.ListN.{length}
 use mathlib.Core.List.{List}
 use Rattle.words.proofs.Choices.{first, taken}
-use Rattle.words.specs.Choice.{_is_}
-use Rattle.card.specs.Kinds.{facts}
-use Rattle.steps.specs.Steps.{steps, order}
-use Rattle.command.specs.Orders.{saidBy, performed}
+use Rattle.words.proofs.Lists.{tail-is}
+use Rattle.chips.specs.Kinds.{facts}
+use Rattle.steps.specs.Steps.{order, body}
 use Rattle.steps.specs.Fits.{Fit, Short}
 use Rattle.steps.specs.declared.Order.{Order}
-use Rattle.command.specs.Orders.{commanded, Does}
-use Rattle.steps.specs.Steps.{body}
-use Rattle.command.proofs.Tells.{does-by}
 use Rattle.steps.proofs.Decisions.{order-fits, order-short}
-use Rattle.words.proofs.Lists.{tail-is}
-use mathlib.Core.Path.{subst⁻¹}
+use Rattle.orders.specs.Orders.{saidBy, performed, commanded, Does}
+use Rattle.orders.proofs.Lengths.{said-short}
+use Rattle.orders.proofs.Tells.{does-by}
 use Rattle.command.proofs.command.Statement.{statement}
 use Rattle.command.proofs.command.Tie as tie
 

@@ -2,13 +2,12 @@
 use borrow.Author.Needs.{needs}
 use mathlib.Core.Path.{subst}
 use native.Mathlib.Omega.{arith}
-use Rattle.words.specs.Choice.{_is_}
-use Rattle.card.specs.Kinds.{facts}
-use Rattle.card.proofs.KindLaws.{laid, coded}
+use Rattle.chips.specs.Kinds.{facts}
+use Rattle.chips.proofs.KindLaws.{laid, coded}
 use Rattle.steps.specs.Steps.{order}
 use Rattle.steps.specs.Fits.{Fit, Short}
 use Rattle.steps.specs.declared.Order.{Order}
-use Rattle.command.proofs.Tells.{does-by}
+use Rattle.orders.proofs.Tells.{does-by}
 use Rattle.command.proofs.perform.Statement.{statement}
 use Rattle.command.proofs.perform.Tie as tie
 

@@ -4,13 +4,12 @@ use mathlib.Core.Path.{_≡_, refl, sym, ap, _∙_}
 use borrow.Author.Tests.{not-true, not-false}
 use mathlib.Core.List.{[]}
 use Rattle.words.proofs.Choices.{first, rest, taken}
-use Rattle.words.specs.Choice.{_and_}
-use Rattle.reader.specs.Exchange.{insertedAs, insertion}
-use Rattle.reader.proofs.Answers.{gives-is, gives-down}
 use Rattle.words.proofs.Lists.{over-none}
-use Rattle.reader.specs.declared.Refusal.{Refusal}
-use Rattle.card.specs.declared.Known.{Known}
-use Rattle.card.specs.Kinds.{chipOf}
+use Rattle.chips.specs.declared.Known.{Known}
+use Rattle.chips.specs.Kinds.{chipOf}
+use Rattle.frame.specs.Exchange.{insertedAs, insertion}
+use Rattle.frame.specs.declared.Refusal.{Refusal}
+use Rattle.frame.proofs.AnswerLaws.{gives-is, gives-down}
 use Rattle.reader.proofs.insert.Statement.{statement}
 use Rattle.reader.proofs.insert.Tie as tie
 

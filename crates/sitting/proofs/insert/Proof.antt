@@ -4,13 +4,11 @@ use mathlib.Core.Path.{_≡_, sym, ap, _∙_}
 use Prim.Native.Nat.{ℕ}
 use mathlib.Core.List.{List, []}
 use lib.ListN.{take, drop}
-use Rattle.words.proofs.Choices.{taken}
-use Rattle.words.specs.Choice.{_is_}
 use Rattle.words.specs.Bytes.{byte}
 use Rattle.words.proofs.Lists.{tail-is}
-use Rattle.sitting.specs.Sittings.{inserting, performed}
+use Rattle.sitting.specs.Sittings.{inserting, outcomeOf}
 use Rattle.words.proofs.Lists.{empty-list}
-use Rattle.sitting.proofs.Holding.{does-is}
+use Rattle.sitting.proofs.Holding.{leaves-is}
 use Rattle.sitting.proofs.insert.Statement.{statement}
 use Rattle.sitting.proofs.insert.Tie as tie
 
@@ -21,11 +19,11 @@ same-length : tie.Need-same-length
 same-length c = search needs
 
 returns : tie.Need-returns
-unfolding performed
+unfolding outcomeOf
 returns c =
     let a = c .before .before .before .before .before .before .before .args in
     let n : a .body .now ≡ [] = empty-list (a .body .now) (c .before .before .before .before .if1 .taken) in
-    λ was. does-is (ap (λ (b : List ℕ). inserting (a .slot) (byte b 0) (drop 1 b) (take (a .size) (a .image .now))) n ∙ ap (λ (b : List ℕ). inserting (a .slot) 0 b (take (a .size) (a .image .now))) (sym n)) (c .before .before .put-in .ensures was)
+    λ was. leaves-is (ap (λ (b : List ℕ). inserting (a .slot) (byte b 0) (drop 1 b) (take (a .size) (a .image .now))) n ∙ ap (λ (b : List ℕ). inserting (a .slot) 0 b (take (a .size) (a .image .now))) (sym n)) (c .before .before .put-in .ensures was)
 
 shared-slice-read-put-in : tie.Need-shared-slice-read-put-in
 shared-slice-read-put-in c = search needs
@@ -46,10 +44,10 @@ same-length-2 : tie.Need-same-length-2
 same-length-2 c = search needs
 
 returns-2 : tie.Need-returns-2
-unfolding performed
+unfolding outcomeOf
 returns-2 c =
     let a = c .before .before .before .before .before .before .before .before .before .args in
-    λ was. does-is (ap (λ (b : List ℕ). inserting (a .slot) (byte (a .body .now) 0) b (take (a .size) (a .image .now))) (sym (tail-is 1 (a .body .now)))) (c .before .before .put-in2 .ensures was)
+    λ was. leaves-is (ap (λ (b : List ℕ). inserting (a .slot) (byte (a .body .now) 0) b (take (a .size) (a .image .now))) (sym (tail-is 1 (a .body .now)))) (c .before .before .put-in2 .ensures was)
 
 pub insert-spec : {M : Type 1} → statement M
 insert-spec =

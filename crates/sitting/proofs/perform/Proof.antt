@@ -5,11 +5,11 @@ use native.Mathlib.Omega.{arith}
 use Prim.Native.Nat.{ℕ}
 use mathlib.Core.List.{List}
 use lib.ListN.{length, take}
-use Rattle.words.specs.Choice.{_⇒_⁏_, _is_}
-use Rattle.reader.specs.Exchange.{exchange}
-use Rattle.sitting.specs.Sittings.{performed}
+use Rattle.words.specs.Bounds.{largest, leastRoom}
+use Rattle.frame.specs.Exchange.{exchange}
+use Rattle.sitting.specs.Sittings.{outcomeOf}
 use Rattle.words.proofs.Lists.{take-min}
-use Rattle.sitting.proofs.Holding.{does-is, does-taken}
+use Rattle.sitting.proofs.Holding.{leaves-is, leaves-taken}
 use Rattle.records.specs.declared.Mark.{Mark}
 use Rattle.sitting.proofs.perform.Statement.{statement}
 use Rattle.sitting.proofs.perform.Tie as tie
@@ -36,28 +36,27 @@ message-requires : tie.Need-message-requires
 message-requires c κs = omega (arith, c .before .before .before .before .least .ensures)
 
 returns : tie.Need-returns
-unfolding _⇒_⁏_
 returns c =
     let a = c .before .before .before .before .before .before .before .args in
     let im : List ℕ = a .image .now in
-    let t : take (c .before .before .before .before .least .result) im ≡ take (a .held .size) im = ap (λ (n : ℕ). take n im) (c .before .before .before .before .least .ensures) ∙ take-min (a .held .size) 32768 im (omega arith) in
-    does-is (ap (λ (m : Mark). performed m (a .body .now) (a .held .slot) (take (a .held .size) im) 271) (c .before .before .enum-told .given .1) ∙ ap (λ (b : List ℕ). performed Mark.Insert (a .body .now) (a .held .slot) b 271) (sym t)) (c .insert .ensures (a .answer .now))
+    let t : take (c .before .before .before .before .least .result) im ≡ take (a .held .size) im = ap (λ (n : ℕ). take n im) (c .before .before .before .before .least .ensures) ∙ take-min (a .held .size) largest im (omega arith) in
+    leaves-is (ap (λ (m : Mark). outcomeOf m (a .body .now) (a .held .slot) (take (a .held .size) im) leastRoom) (c .before .before .enum-told .given .1) ∙ ap (λ (b : List ℕ). outcomeOf Mark.Insert (a .body .now) (a .held .slot) b leastRoom) (sym t)) (c .insert .ensures (a .answer .now))
 
 returns-2 : tie.Need-returns-2
-unfolding performed
+unfolding outcomeOf
 returns-2 c =
     let a = c .before .before .before .before .before .before .args in
     let e = c .remove .ensures in
-    does-is (ap (λ (m : Mark). performed m (a .body .now) (a .held .slot) (take (a .held .size) (a .image .now)) 271) (c .before .enum-told2 .given .1)) (does-taken (a .image .now) (a .answer .now) (e .0) (e .1) (e .2) (e .3))
+    leaves-is (ap (λ (m : Mark). outcomeOf m (a .body .now) (a .held .slot) (take (a .held .size) (a .image .now)) leastRoom) (c .before .enum-told2 .given .1)) (leaves-taken (a .image .now) (a .answer .now) (e .0) (e .1) (e .2) (e .3))
 
 returns-3 : tie.Need-returns-3
-unfolding performed
+unfolding outcomeOf
 returns-3 c =
     let a = c .before .before .before .before .before .before .before .before .args in
     let im : List ℕ = a .image .now in
-    let t : take (c .before .before .before .before .before .least .result) im ≡ take (a .held .size) im = ap (λ (n : ℕ). take n im) (c .before .before .before .before .before .least .ensures) ∙ take-min (a .held .size) 32768 im (omega arith) in
-    let r : length (a .answer .now) ≡ 271 = omega arith in
-    does-is (ap (λ (m : Mark). performed m (a .body .now) (a .held .slot) (take (a .held .size) im) 271) (c .before .before .before .enum-told3 .given .1) ∙ ap₂ (λ (b : List ℕ) (n : ℕ). exchange (a .held .slot) b (a .body .now) n) (sym t) (sym r)) (c .message .ensures)
+    let t : take (c .before .before .before .before .before .least .result) im ≡ take (a .held .size) im = ap (λ (n : ℕ). take n im) (c .before .before .before .before .before .least .ensures) ∙ take-min (a .held .size) largest im (omega arith) in
+    let r : length (a .answer .now) ≡ leastRoom = omega arith in
+    leaves-is (ap (λ (m : Mark). outcomeOf m (a .body .now) (a .held .slot) (take (a .held .size) im) leastRoom) (c .before .before .before .enum-told3 .given .1) ∙ ap₂ (λ (b : List ℕ) (n : ℕ). exchange (a .held .slot) b (a .body .now) n) (sym t) (sym r)) (c .message .ensures)
 
 pub perform-spec : {M : Type 1} → statement M
 perform-spec =

@@ -1,59 +1,49 @@
 -- `bits_order` meets its contract: its tests are the steps, in their order.
-use Rattle.words.specs.Choice.{_and_}
 use borrow.Author.Needs.{needs}
 use mathlib.Core.Path.{refl, sym, ap, _∙_}
-use mathlib.Core.Bool.{Bool, not}
+use mathlib.Core.Bool.{not}
 use native.Mathlib.Omega.{arith}
 use Prim.Native.Nat.{_+_, _*_}
-use borrow.Author.Tests.{eq-eqb, ne-eqb, le-leb, lt-leb}
-use Rattle.words.proofs.Choices.{taken, passed}
-use Rattle.card.specs.Kinds.{facts}
-use Rattle.steps.specs.Steps.{steps}
+use borrow.Author.Tests.{eq-eqb, ne-eqb, le-leb, lt-leb, not-true, not-false}
+use Rattle.chips.specs.declared.Facts.{Facts}
+use Rattle.chips.specs.Kinds.{facts}
+use Rattle.steps.specs.Steps.{Bits}
+use Rattle.steps.proofs.StepLaws.{Past4, Past5, Past6, PastP3, past3, past4, past5, past6, pastP3, past7, past-all, stop4, stop5, stop6, stopP3, stop7}
 use Rattle.steps.proofs.bits_order.Statement.{statement}
 use Rattle.steps.proofs.bits_order.Tie as tie
 
-returns : tie.Need-returns
-unfolding steps _and_
-returns c =
-    λ im v.
-    (passed _ refl
-    (taken _ (eq-eqb _ 0 (c .if1 .taken))))
+on4 : (c : tie.Else1) → let a = c .before .before .args in Past4 (facts (a .chip)) (a .slot) (a .n) (a .at) (a .p) Bits
+on4 c = past4 (past3 refl) (c .if1 .left)
 
-covered-requires : tie.Need-covered-requires
-covered-requires c κs = search needs
+on5 : (c : tie.Else2) → let a = c .before .before .before .before .before .args in Past5 (facts (a .chip)) (a .slot) (a .n) (a .at) (a .p) Bits
+on5 c = past5 (on4 (c .before .before .before)) (ap not (ne-eqb _ 0 (λ e. c .if2 .left (ap (λ (f : Facts). f .covered) (c .before .before .facts .ensures) ∙ e))))
+
+on6 : (c : tie.Else3) → let a = c .before .before .before .before .before .before .args in Past6 (facts (a .chip)) (a .slot) (a .n) (a .at) (a .p) Bits
+on6 c = past6 (on5 (c .before)) (c .if3 .left)
+
+onP3 : (c : tie.Else4) → let a = c .before .before .before .before .before .before .before .before .args in PastP3 (facts (a .chip)) (a .slot) (a .n) (a .at) (a .p) Bits
+onP3 c = pastP3 (on6 (c .before .before)) (sym (c .before .bits-length .ensures) ∙ not-false _ (c .if4 .left))
+
+returns : tie.Need-returns
+returns c im v = stop4 (past3 refl) refl (c .if1 .taken) im v
+
+facts-requires : tie.Need-facts-requires
+facts-requires c κs = search needs
 
 returns-2 : tie.Need-returns-2
-unfolding steps _and_
-returns-2 c =
-    λ im v.
-    (passed _ refl
-    (passed _ (ne-eqb _ 0 (c .before .before .if1 .left))
-    (taken _ (ap (λ (t : Bool). not (not t)) (eq-eqb _ 0 (sym (c .before .covered .ensures) ∙ c .if2 .taken))))))
+returns-2 c im v = stop5 (on4 (c .before .before .before)) (ap not (eq-eqb _ 0 (sym (ap (λ (f : Facts). f .covered) (c .before .before .facts .ensures)) ∙ c .if2 .taken))) im v
 
 returns-3 : tie.Need-returns-3
-unfolding steps _and_
-returns-3 c =
-    λ im v.
-    (passed _ refl
-    (passed _ (ne-eqb _ 0 (c .before .before .before .if1 .left))
-    (passed _ (ap (λ (t : Bool). not (not t)) (ne-eqb _ 0 (λ e. c .before .if2 .left (c .before .before .covered .ensures ∙ e))))
-    (taken _ (ap not (ne-eqb _ _ (c .if3 .taken)))))))
+returns-3 c im v = stop6 (on5 (c .before)) (c .if3 .taken) im v
 
 bits-length-requires : tie.Need-bits-length-requires
 bits-length-requires c κs = search needs
 
 returns-4 : tie.Need-returns-4
-unfolding steps _and_
-returns-4 c =
-    λ im v.
-    (passed _ refl
-    (passed _ (ne-eqb _ 0 (c .before .before .before .before .before .if1 .left))
-    (passed _ (ap (λ (t : Bool). not (not t)) (ne-eqb _ 0 (λ e. c .before .before .before .if2 .left (c .before .before .before .before .covered .ensures ∙ e))))
-    (passed _ (ap not (eq-eqb _ _ (c .before .before .if3 .left)))
-    (taken _ (ap not (sym (c .before .bits-length .ensures)) ∙ c .if4 .taken))))))
+returns-4 c im v = stopP3 (on6 (c .before .before)) (sym (c .before .bits-length .ensures) ∙ not-true _ (c .if4 .taken)) im v
 
-covered-requires-2 : tie.Need-covered-requires-2
-covered-requires-2 c κs = search needs
+facts-requires-2 : tie.Need-facts-requires-2
+facts-requires-2 c κs = search needs
 
 mul-if5 : tie.Need-mul-if5
 mul-if5 c = search needs
@@ -62,42 +52,26 @@ add-if5 : tie.Need-add-if5
 add-if5 c = search needs
 
 returns-5 : tie.Need-returns-5
-unfolding steps _and_
-returns-5 c =
-    λ im v.
-    (passed _ refl
-    (passed _ (ne-eqb _ 0 (c .before .before .before .before .before .before .before .if1 .left))
-    (passed _ (ap (λ (t : Bool). not (not t)) (ne-eqb _ 0 (λ e. c .before .before .before .before .before .if2 .left (c .before .before .before .before .before .before .covered .ensures ∙ e))))
-    (passed _ (ap not (eq-eqb _ _ (c .before .before .before .before .if3 .left)))
-    (passed _ (ap not (sym (c .before .before .before .bits-length .ensures)) ∙ c .before .before .if4 .left)
-    (taken _ (ap not (lt-leb (c .before .before .before .before .before .before .before .before .before .args .at + 8 * c .before .before .before .before .before .before .before .before .before .args .p) (facts (c .before .before .before .before .before .before .before .before .before .args .chip) .covered) (omega (arith, c .if5 .taken, c .before .covered2 .ensures))))))))))
+returns-5 c im v =
+    let a = c .before .before .before .before .before .before .before .before .before .before .before .args in
+    stop7 (onP3 (c .before .before .before)) (lt-leb (a .at + 8 * a .p) (facts (a .chip) .covered) (omega (arith, ap (λ (f : Facts). f .covered) (c .before .before .facts2 .ensures), c .if5 .taken))) im v
 
 returns-6 : tie.Need-returns-6
-unfolding steps _and_
-returns-6 c =
-    λ im v.
-    (passed _ refl
-    (passed _ (ne-eqb _ 0 (c .before .before .before .before .before .before .before .if1 .left))
-    (passed _ (ap (λ (t : Bool). not (not t)) (ne-eqb _ 0 (λ e. c .before .before .before .before .before .if2 .left (c .before .before .before .before .before .before .covered .ensures ∙ e))))
-    (passed _ (ap not (eq-eqb _ _ (c .before .before .before .before .if3 .left)))
-    (passed _ (ap not (sym (c .before .before .before .bits-length .ensures)) ∙ c .before .before .if4 .left)
-    (passed _ (ap not (le-leb (c .before .before .before .before .before .before .before .before .before .args .at + 8 * c .before .before .before .before .before .before .before .before .before .args .p) (facts (c .before .before .before .before .before .before .before .before .before .args .chip) .covered) (omega (arith, c .if5 .left, c .before .covered2 .ensures))))
-    (passed _ refl
-    (passed _ refl
-    (passed _ refl
-    (refl))))))))))
+returns-6 c im v =
+    let a = c .before .before .before .before .before .before .before .before .before .before .before .args in
+    past-all (past7 (onP3 (c .before .before .before)) (le-leb (a .at + 8 * a .p) (facts (a .chip) .covered) (omega (arith, ap (λ (f : Facts). f .covered) (c .before .before .facts2 .ensures), c .if5 .left)))) v refl refl im refl
 
 pub bits-order-spec : {M : Type 1} → statement M
 bits-order-spec =
     tie.close
     (tie.spec
     returns
-    covered-requires
+    facts-requires
     returns-2
     returns-3
     bits-length-requires
     returns-4
-    covered-requires-2
+    facts-requires-2
     mul-if5
     add-if5
     returns-5

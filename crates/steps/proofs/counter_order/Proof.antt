@@ -1,95 +1,65 @@
 -- `counter_order` meets its contract: its tests are the steps, in their order.
-use Rattle.words.specs.Choice.{_and_}
 use borrow.Author.Needs.{needs}
 use mathlib.Core.Path.{refl, sym, ap, _∙_}
-use mathlib.Core.Bool.{not}
 use native.Mathlib.Omega.{arith}
-use Prim.Native.Nat.{ℕ, _+_}
-use borrow.Author.Tests.{eq-eqb, ne-eqb}
-use Rattle.words.proofs.Choices.{taken, passed}
-use Rattle.card.proofs.KindLaws.{laid}
-use Rattle.steps.specs.Steps.{steps}
+use Prim.Native.Nat.{_+_}
+use borrow.Author.Tests.{eq-eqb, ne-eqb, not-true, not-false}
+use Rattle.chips.specs.declared.Facts.{Facts}
+use Rattle.chips.specs.Kinds.{facts}
+use Rattle.chips.proofs.KindLaws.{laid}
+use Rattle.steps.specs.Steps.{Counter}
+use Rattle.steps.proofs.StepLaws.{Past4, Past5, Past6, PastP3, past3, past4, past5, past6, pastP3, past7, past-all, stop4, stop5, stop6, stopP3, stop7}
 use Rattle.steps.proofs.counter_order.Statement.{statement}
 use Rattle.steps.proofs.counter_order.Tie as tie
 
-returns : tie.Need-returns
-unfolding steps _and_
-returns c =
-    λ im v.
-    (passed _ refl
-    (taken _ (eq-eqb _ 0 (c .if1 .taken))))
+on4 : (c : tie.Else1) → let a = c .before .before .args in Past4 (facts (a .chip)) (a .slot) (a .n) (a .at) (a .p) Counter
+on4 c = past4 (past3 refl) (c .if1 .left)
 
-coded-requires : tie.Need-coded-requires
-coded-requires c κs = search needs
+on5 : (c : tie.Else2) → let a = c .before .before .before .before .before .args in Past5 (facts (a .chip)) (a .slot) (a .n) (a .at) (a .p) Counter
+on5 c = past5 (on4 (c .before .before .before)) (sym (ap (λ (f : Facts). f .coded) (c .before .before .facts .ensures)) ∙ not-false _ (c .if2 .left))
+
+on6 : (c : tie.Else3) → let a = c .before .before .before .before .before .before .args in Past6 (facts (a .chip)) (a .slot) (a .n) (a .at) (a .p) Counter
+on6 c = past6 (on5 (c .before)) (c .if3 .left)
+
+onP3 : (c : tie.Else4) → let a = c .before .before .before .before .before .before .before .before .before .args in PastP3 (facts (a .chip)) (a .slot) (a .n) (a .at) (a .p) Counter
+onP3 c = pastP3 (on6 (c .before .before .before)) (eq-eqb _ _ (c .if4 .left ∙ ap (λ (f : Facts). f .digits + 1) (c .before .before .facts2 .ensures)))
+
+returns : tie.Need-returns
+returns c im v = stop4 (past3 refl) refl (c .if1 .taken) im v
+
+facts-requires : tie.Need-facts-requires
+facts-requires c κs = search needs
 
 returns-2 : tie.Need-returns-2
-unfolding steps _and_
-returns-2 c =
-    λ im v.
-    (passed _ refl
-    (passed _ (ne-eqb _ 0 (c .before .before .if1 .left))
-    (taken _ (ap not (sym (c .before .coded .ensures)) ∙ c .if2 .taken))))
+returns-2 c im v = stop5 (on4 (c .before .before .before)) (sym (ap (λ (f : Facts). f .coded) (c .before .before .facts .ensures)) ∙ not-true _ (c .if2 .taken)) im v
 
 returns-3 : tie.Need-returns-3
-unfolding steps _and_
-returns-3 c =
-    λ im v.
-    (passed _ refl
-    (passed _ (ne-eqb _ 0 (c .before .before .before .if1 .left))
-    (passed _ (ap not (sym (c .before .before .coded .ensures)) ∙ c .before .if2 .left)
-    (taken _ (ap not (ne-eqb _ _ (c .if3 .taken)))))))
+returns-3 c im v = stop6 (on5 (c .before)) (c .if3 .taken) im v
 
-digits-requires : tie.Need-digits-requires
-digits-requires c κs = search needs
+facts-requires-2 : tie.Need-facts-requires-2
+facts-requires-2 c κs = search needs
 
 add-if4 : tie.Need-add-if4
-add-if4 c = omega (arith, laid (c .before .before .before .before .before .before .args .chip) .digits, c .digits .ensures)
+add-if4 c = omega (arith, ap (λ (f : Facts). f .digits) (c .before .facts2 .ensures), laid (c .before .before .before .before .before .before .before .before .args .chip) .digits)
 
 returns-4 : tie.Need-returns-4
-unfolding steps _and_
-returns-4 c =
-    λ im v.
-    (passed _ refl
-    (passed _ (ne-eqb _ 0 (c .before .before .before .before .before .if1 .left))
-    (passed _ (ap not (sym (c .before .before .before .before .coded .ensures)) ∙ c .before .before .before .if2 .left)
-    (passed _ (ap not (eq-eqb _ _ (c .before .before .if3 .left)))
-    (taken _ (ap not (ne-eqb _ _ (λ e. c .if4 .taken (e ∙ sym (ap (λ (k : ℕ). k + 1) (c .before .digits .ensures)))))))))))
+returns-4 c im v = stopP3 (on6 (c .before .before .before)) (ne-eqb _ _ (λ e. c .if4 .taken (e ∙ sym (ap (λ (f : Facts). f .digits + 1) (c .before .before .facts2 .ensures))))) im v
 
 returns-5 : tie.Need-returns-5
-unfolding steps _and_
-returns-5 c =
-    λ im v.
-    (passed _ refl
-    (passed _ (ne-eqb _ 0 (c .before .before .before .before .before .before .if1 .left))
-    (passed _ (ap not (sym (c .before .before .before .before .before .coded .ensures)) ∙ c .before .before .before .before .if2 .left)
-    (passed _ (ap not (eq-eqb _ _ (c .before .before .before .if3 .left)))
-    (passed _ (ap not (eq-eqb _ _ (c .before .if4 .left ∙ ap (λ (k : ℕ). k + 1) (c .before .before .digits .ensures))))
-    (taken _ (ap not (ne-eqb _ _ (c .if5 .taken)))))))))
+returns-5 c im v = stop7 (onP3 (c .before)) (ne-eqb _ 0 (c .if5 .taken)) im v
 
 returns-6 : tie.Need-returns-6
-unfolding steps _and_
-returns-6 c =
-    λ im v.
-    (passed _ refl
-    (passed _ (ne-eqb _ 0 (c .before .before .before .before .before .before .if1 .left))
-    (passed _ (ap not (sym (c .before .before .before .before .before .coded .ensures)) ∙ c .before .before .before .before .if2 .left)
-    (passed _ (ap not (eq-eqb _ _ (c .before .before .before .if3 .left)))
-    (passed _ (ap not (eq-eqb _ _ (c .before .if4 .left ∙ ap (λ (k : ℕ). k + 1) (c .before .before .digits .ensures))))
-    (passed _ (ap not (eq-eqb _ _ (c .if5 .left)))
-    (passed _ refl
-    (passed _ refl
-    (passed _ refl
-    (refl))))))))))
+returns-6 c im v = past-all (past7 (onP3 (c .before)) (eq-eqb _ 0 (c .if5 .left))) v refl refl im refl
 
 pub counter-order-spec : {M : Type 1} → statement M
 counter-order-spec =
     tie.close
     (tie.spec
     returns
-    coded-requires
+    facts-requires
     returns-2
     returns-3
-    digits-requires
+    facts-requires-2
     add-if4
     returns-4
     returns-5

@@ -1,118 +1,78 @@
 -- `page_order` meets its contract: its tests are the steps, in their order.
 use borrow.Author.Needs.{needs}
-use mathlib.Core.Path.{_≡_, refl, sym, ap, ap₂, _∙_}
-use mathlib.Core.Bool.{Bool, not}
+use mathlib.Core.Path.{_≡_, refl, sym, ap, _∙_}
+use mathlib.Core.Bool.{not}
 use native.Mathlib.Omega.{arith}
 use Prim.Native.Nat.{_*_, _%_, _^_, _≤_}
-use borrow.Author.Tests.{eq-eqb, ne-eqb, le-leb, lt-leb}
-use lib.Dec.{leb}
-use Rattle.words.proofs.Choices.{taken, passed}
-use Rattle.words.specs.Choice.{_and_}
-use Rattle.steps.specs.Steps.{steps}
 use lib.Pow.{pow-mono}
+use borrow.Author.Tests.{eq-eqb, ne-eqb, le-leb, lt-leb}
+use Rattle.words.proofs.Choices.{and-fails, and-holds, both}
+use Rattle.chips.specs.declared.Facts.{Facts}
+use Rattle.chips.specs.Kinds.{facts}
+use Rattle.steps.specs.Steps.{Page}
 use Rattle.steps.specs.declared.Order.{Order}
+use Rattle.steps.proofs.StepLaws.{Past4, Past5, Past6, PastP3, Past7, past3, past4, past5, past6, pastP3, past7, past-all, stop4, stop5, stop6, stopP3, stop7, stop8}
 use Rattle.steps.proofs.page_order.Statement.{statement}
 use Rattle.steps.proofs.page_order.Tie as tie
 
-returns : tie.Need-returns
-unfolding steps _and_
-returns c =
-    λ im.
-    (passed _ refl
-    (taken _ (eq-eqb _ 0 (c .if1 .taken))))
+on4 : (c : tie.Else1) → let a = c .before .before .args in Past4 (facts (a .chip)) (a .slot) (a .n) (a .at) (a .p) Page
+on4 c = past4 (past3 refl) (c .if1 .left)
 
-page-requires : tie.Need-page-requires
-page-requires c κs = search needs
+on5 : (c : tie.Else2) → let a = c .before .before .before .before .before .args in Past5 (facts (a .chip)) (a .slot) (a .n) (a .at) (a .p) Page
+on5 c = past5 (on4 (c .before .before .before)) (ap not (ne-eqb _ 0 (λ e. c .if2 .left (ap (λ (f : Facts). f .page) (c .before .before .facts .ensures) ∙ e))))
+
+on6 : (c : tie.Else3) → let a = c .before .before .before .before .before .before .args in Past6 (facts (a .chip)) (a .slot) (a .n) (a .at) (a .p) Page
+on6 c = past6 (on5 (c .before)) (c .if3 .left)
+
+onP3 : (c : tie.Else4) → let a = c .before .before .before .before .before .before .before .args in PastP3 (facts (a .chip)) (a .slot) (a .n) (a .at) (a .p) Page
+onP3 c = pastP3 (on6 (c .before)) (eq-eqb _ 1 (c .if4 .left))
+
+on7 : (c : tie.Else5) → let a = c .before .before .before .before .before .before .before .before .args in Past7 (facts (a .chip)) (a .slot) (a .n) (a .at) (a .p) Page
+on7 c = past7 (onP3 (c .before)) (eq-eqb _ 0 (c .if5 .left))
+
+returns : tie.Need-returns
+returns c im = stop4 (past3 refl) refl (c .if1 .taken) im _
+
+facts-requires : tie.Need-facts-requires
+facts-requires c κs = search needs
 
 returns-2 : tie.Need-returns-2
-unfolding steps _and_
-returns-2 c =
-    λ im.
-    (passed _ refl
-    (passed _ (ne-eqb _ 0 (c .before .before .if1 .left))
-    (taken _ (ap (λ (t : Bool). not (not t)) (eq-eqb _ 0 (sym (c .before .page .ensures) ∙ c .if2 .taken))))))
+returns-2 c im = stop5 (on4 (c .before .before .before)) (ap not (eq-eqb _ 0 (sym (ap (λ (f : Facts). f .page) (c .before .before .facts .ensures)) ∙ c .if2 .taken))) im _
 
 add-if3 : tie.Need-add-if3
 add-if3 c = search needs
 
 returns-3 : tie.Need-returns-3
-unfolding steps _and_
-returns-3 c =
-    λ im.
-    (passed _ refl
-    (passed _ (ne-eqb _ 0 (c .before .before .before .if1 .left))
-    (passed _ (ap (λ (t : Bool). not (not t)) (ne-eqb _ 0 (λ e. c .before .if2 .left (c .before .before .page .ensures ∙ e))))
-    (taken _ (ap not (ne-eqb _ _ (c .if3 .taken)))))))
+returns-3 c im = stop6 (on5 (c .before)) (c .if3 .taken) im _
 
 returns-4 : tie.Need-returns-4
-unfolding steps _and_
-returns-4 c =
-    λ im.
-    (passed _ refl
-    (passed _ (ne-eqb _ 0 (c .before .before .before .before .if1 .left))
-    (passed _ (ap (λ (t : Bool). not (not t)) (ne-eqb _ 0 (λ e. c .before .before .if2 .left (c .before .before .before .page .ensures ∙ e))))
-    (passed _ (ap not (eq-eqb _ _ (c .before .if3 .left)))
-    (taken _ (ap not (ne-eqb _ _ (c .if4 .taken))))))))
+returns-4 c im = stopP3 (on6 (c .before)) (ne-eqb _ 1 (c .if4 .taken)) im _
 
 returns-5 : tie.Need-returns-5
-unfolding steps _and_
-returns-5 c =
-    λ im.
-    (passed _ refl
-    (passed _ (ne-eqb _ 0 (c .before .before .before .before .before .if1 .left))
-    (passed _ (ap (λ (t : Bool). not (not t)) (ne-eqb _ 0 (λ e. c .before .before .before .if2 .left (c .before .before .before .before .page .ensures ∙ e))))
-    (passed _ (ap not (eq-eqb _ _ (c .before .before .if3 .left)))
-    (passed _ (ap not (eq-eqb _ _ (c .before .if4 .left)))
-    (taken _ (ap not (ne-eqb _ _ (c .if5 .taken)))))))))
+returns-5 c im = stop7 (onP3 (c .before)) (ne-eqb _ 0 (c .if5 .taken)) im _
 
 returns-6 : tie.Need-returns-6
-unfolding steps _and_
-returns-6 c =
-    λ im.
-    (passed _ refl
-    (passed _ (ne-eqb _ 0 (c .before .before .before .before .before .before .if1 .left))
-    (passed _ (ap (λ (t : Bool). not (not t)) (ne-eqb _ 0 (λ e. c .before .before .before .before .if2 .left (c .before .before .before .before .before .page .ensures ∙ e))))
-    (passed _ (ap not (eq-eqb _ _ (c .before .before .before .if3 .left)))
-    (passed _ (ap not (eq-eqb _ _ (c .before .before .if4 .left)))
-    (passed _ (ap not (eq-eqb _ _ (c .before .if5 .left)))
-    (taken _ (ap (λ (t : Bool). not (t and leb (c .before .before .before .before .before .before .before .before .args .v) 7)) (lt-leb 3 (c .before .before .before .before .before .before .before .before .args .v) (c .if6 .taken))))))))))
+returns-6 c im = stop8 (on7 (c .before)) _ (sym (and-fails _ (lt-leb 3 _ (c .if6 .taken)))) im
 
 returns-7 : tie.Need-returns-7
-unfolding steps _and_
-returns-7 c =
-    λ im.
-    (passed _ refl
-    (passed _ (ne-eqb _ 0 (c .before .before .before .before .before .before .before .if1 .left))
-    (passed _ (ap (λ (t : Bool). not (not t)) (ne-eqb _ 0 (λ e. c .before .before .before .before .before .if2 .left (c .before .before .before .before .before .before .page .ensures ∙ e))))
-    (passed _ (ap not (eq-eqb _ _ (c .before .before .before .before .if3 .left)))
-    (passed _ (ap not (eq-eqb _ _ (c .before .before .before .if4 .left)))
-    (passed _ (ap not (eq-eqb _ _ (c .before .before .if5 .left)))
-    (taken _ (ap₂ (λ (s t : Bool). not (s and t)) (le-leb 3 (c .before .before .before .before .before .before .before .before .before .args .v) (c .before .if6 .left)) (lt-leb (c .before .before .before .before .before .before .before .before .before .args .v) 7 (c .if7 .taken))))))))))
+returns-7 c im = stop8 (on7 (c .before .before)) _ (sym (and-holds (le-leb 3 _ (c .before .if6 .left)) (sym (lt-leb _ 7 (c .if7 .taken))))) im
 
-shl-t16 : tie.Need-shl-t16
-shl-t16 c = search needs
+shl-t17 : tie.Need-shl-t17
+shl-t17 c = search needs
 
 returns-8 : tie.Need-returns-8
-unfolding steps _and_
-returns-8 c =
-    λ im.
-    (passed _ refl
-    (passed _ (ne-eqb _ 0 (c .before .before .before .before .before .before .before .if1 .left))
-    (passed _ (ap (λ (t : Bool). not (not t)) (ne-eqb _ 0 (λ e. c .before .before .before .before .before .if2 .left (c .before .before .before .before .before .before .page .ensures ∙ e))))
-    (passed _ (ap not (eq-eqb _ _ (c .before .before .before .before .if3 .left)))
-    (passed _ (ap not (eq-eqb _ _ (c .before .before .before .if4 .left)))
-    (passed _ (ap not (eq-eqb _ _ (c .before .before .if5 .left)))
-    (passed _ (ap₂ (λ (s t : Bool). not (s and t)) (le-leb 3 (c .before .before .before .before .before .before .before .before .before .args .v) (c .before .if6 .left)) (le-leb (c .before .before .before .before .before .before .before .before .before .args .v) 7 (c .if7 .left)))
-    (passed _ refl
-    (passed _ refl
-    (let small : 2 ^ c .before .before .before .before .before .before .before .before .before .args .v ≤ 2 ^ 7 = pow-mono (c .if7 .left) in let e : 1 * 2 ^ c .before .before .before .before .before .before .before .before .before .args .v % 256 ≡ 2 ^ c .before .before .before .before .before .before .before .before .before .args .v = omega (arith, small) in ap Order.Page e))))))))))
+returns-8 c im =
+    let v = c .before .before .before .before .before .before .before .before .before .before .args .v in
+    let small : 2 ^ v ≤ 2 ^ 7 = pow-mono (c .if7 .left) in
+    let e : 1 * 2 ^ v % 256 ≡ 2 ^ v = omega (arith, small) in
+    ap Order.Page e ∙ past-all (on7 (c .before .before)) v (both (le-leb 3 _ (c .before .if6 .left)) (le-leb _ 7 (c .if7 .left))) refl im refl
 
 pub page-order-spec : {M : Type 1} → statement M
 page-order-spec =
     tie.close
     (tie.spec
     returns
-    page-requires
+    facts-requires
     returns-2
     add-if3
     returns-3
@@ -120,5 +80,5 @@ page-order-spec =
     returns-5
     returns-6
     returns-7
-    shl-t16
+    shl-t17
     returns-8)

@@ -1,75 +1,58 @@
 -- `read_order` meets its contract: its tests are the steps, in their order.
-use Rattle.words.specs.Choice.{_and_}
 use borrow.Author.Needs.{needs}
 use mathlib.Core.Path.{refl, ap}
-use mathlib.Core.Bool.{not}
 use native.Mathlib.Omega.{arith}
 use Prim.Native.Nat.{_+_}
-use borrow.Author.Tests.{eq-eqb, ne-eqb, le-leb, lt-leb}
-use Rattle.words.proofs.Choices.{taken, passed}
-use Rattle.card.specs.Kinds.{facts}
-use Rattle.steps.specs.Steps.{steps}
+use borrow.Author.Tests.{le-leb, lt-leb}
+use Rattle.chips.specs.declared.Facts.{Facts}
+use Rattle.chips.specs.Kinds.{facts}
+use Rattle.steps.specs.Steps.{Read}
+use Rattle.steps.proofs.StepLaws.{Past4, Past6, PastP3, past3, past4, past5, past6, pastP3, past7, past-all, stop4, stop6, stopP3, stop7}
 use Rattle.steps.proofs.read_order.Statement.{statement}
 use Rattle.steps.proofs.read_order.Tie as tie
 
+on4 : (c : tie.Else1) → let a = c .before .before .args in Past4 (facts (a .chip)) (a .slot) (a .n) (a .at) (a .p) Read
+on4 c = past4 (past3 refl) (c .if1 .left)
+
+on6 : (c : tie.Else2) → let a = c .before .before .before .args in Past6 (facts (a .chip)) (a .slot) (a .n) (a .at) (a .p) Read
+on6 c = past6 (past5 (on4 (c .before)) refl) (c .if2 .left)
+
+onP3 : (c : tie.Else3) → let a = c .before .before .before .before .args in PastP3 (facts (a .chip)) (a .slot) (a .n) (a .at) (a .p) Read
+onP3 c = pastP3 (on6 (c .before)) (le-leb 1 _ (c .if3 .left))
+
 returns : tie.Need-returns
-unfolding steps _and_
-returns c =
-    λ im v.
-    (passed _ refl
-    (taken _ (eq-eqb _ 0 (c .if1 .taken))))
+returns c im v = stop4 (past3 refl) refl (c .if1 .taken) im v
 
 returns-2 : tie.Need-returns-2
-unfolding steps _and_
-returns-2 c =
-    λ im v.
-    (passed _ refl
-    (passed _ (ne-eqb _ 0 (c .before .if1 .left))
-    (passed _ refl
-    (taken _ (ap not (ne-eqb _ _ (c .if2 .taken)))))))
+returns-2 c im v = stop6 (past5 (on4 (c .before)) refl) (c .if2 .taken) im v
 
 returns-3 : tie.Need-returns-3
-unfolding steps _and_
-returns-3 c =
-    λ im v.
-    (passed _ refl
-    (passed _ (ne-eqb _ 0 (c .before .before .if1 .left))
-    (passed _ refl
-    (passed _ (ap not (eq-eqb _ _ (c .before .if2 .left)))
-    (taken _ (ap not (lt-leb 1 _ (c .if3 .taken))))))))
+returns-3 c im v = stopP3 (on6 (c .before)) (lt-leb 1 _ (c .if3 .taken)) im v
 
-memory-requires : tie.Need-memory-requires
-memory-requires c κs = search needs
+facts-requires : tie.Need-facts-requires
+facts-requires c κs = search needs
 
 add-if4 : tie.Need-add-if4
 add-if4 c = search needs
 
 returns-4 : tie.Need-returns-4
-unfolding steps _and_
-returns-4 c =
-    λ im v.
-    (passed _ refl
-    (passed _ (ne-eqb _ 0 (c .before .before .before .before .if1 .left))
-    (passed _ refl
-    (passed _ (ap not (eq-eqb _ _ (c .before .before .before .if2 .left)))
-    (passed _ (ap not (le-leb 1 _ (c .before .before .if3 .left)))
-    (taken _ (ap not (lt-leb (c .before .before .before .before .before .before .args .at + c .before .before .before .before .before .before .args .p) (facts (c .before .before .before .before .before .before .args .chip) .memory) (omega (arith, c .if4 .taken, c .before .memory .ensures))))))))))
+returns-4 c im v =
+    let a = c .before .before .before .before .before .before .before .args in
+    stop7 (onP3 (c .before .before .before)) (lt-leb (a .at + a .p) (facts (a .chip) .memory) (omega (arith, ap (λ (f : Facts). f .memory) (c .before .before .facts .ensures), c .if4 .taken))) im v
 
 returns-5 : tie.Need-returns-5
-unfolding steps _and_
-returns-5 c =
-    λ im v.
-    (passed _ refl
-    (passed _ (ne-eqb _ 0 (c .before .before .before .before .if1 .left))
-    (passed _ refl
-    (passed _ (ap not (eq-eqb _ _ (c .before .before .before .if2 .left)))
-    (passed _ (ap not (le-leb 1 _ (c .before .before .if3 .left)))
-    (passed _ (ap not (le-leb (c .before .before .before .before .before .before .args .at + c .before .before .before .before .before .before .args .p) (facts (c .before .before .before .before .before .before .args .chip) .memory) (omega (arith, c .if4 .left, c .before .memory .ensures))))
-    (passed _ refl
-    (passed _ refl
-    (passed _ refl
-    (refl))))))))))
+returns-5 c im v =
+    let a = c .before .before .before .before .before .before .before .args in
+    past-all (past7 (onP3 (c .before .before .before)) (le-leb (a .at + a .p) (facts (a .chip) .memory) (omega (arith, ap (λ (f : Facts). f .memory) (c .before .before .facts .ensures), c .if4 .left)))) v refl refl im refl
 
 pub read-order-spec : {M : Type 1} → statement M
 read-order-spec =
-    tie.close (tie.spec returns returns-2 returns-3 memory-requires add-if4 returns-4 returns-5)
+    tie.close
+    (tie.spec
+    returns
+    returns-2
+    returns-3
+    facts-requires
+    add-if4
+    returns-4
+    returns-5)

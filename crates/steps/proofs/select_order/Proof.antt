@@ -1,78 +1,52 @@
 -- `select_order` meets its contract: its tests are the steps, in their order.
-use Rattle.words.specs.Choice.{_and_}
 use borrow.Author.Needs.{needs}
 use mathlib.Core.Path.{refl, sym, ap, _∙_}
-use mathlib.Core.Bool.{not}
-use Prim.Native.Nat.{ℕ}
 use borrow.Author.Tests.{eq-eqb, ne-eqb}
-use Rattle.words.proofs.Choices.{taken, passed}
-use Rattle.steps.specs.Steps.{steps}
+use Rattle.chips.specs.declared.Facts.{Facts}
+use Rattle.chips.specs.Kinds.{facts}
+use Rattle.steps.specs.Steps.{Select}
+use Rattle.steps.proofs.StepLaws.{Past6, PastP3, Past7, past3, past4-free, past5, past6, pastP3, past7, past-all, stop6, stopP3, stop7, stop8}
 use Rattle.steps.proofs.select_order.Statement.{statement}
 use Rattle.steps.proofs.select_order.Tie as tie
+
+on6 : (c : tie.Else1) → let a = c .before .args in Past6 (facts (a .chip)) (a .slot) (a .n) (a .at) (a .p) Select
+on6 c = past6 (past5 (past4-free (past3 refl) refl) refl) (c .if1 .left)
+
+onP3 : (c : tie.Else2) → let a = c .before .before .args in PastP3 (facts (a .chip)) (a .slot) (a .n) (a .at) (a .p) Select
+onP3 c = pastP3 (on6 (c .before)) (eq-eqb _ 1 (c .if2 .left))
+
+on7 : (c : tie.Else3) → let a = c .before .before .before .args in Past7 (facts (a .chip)) (a .slot) (a .n) (a .at) (a .p) Select
+on7 c = past7 (onP3 (c .before)) (eq-eqb _ 0 (c .if3 .left))
 
 add-if1 : tie.Need-add-if1
 add-if1 c = search needs
 
 returns : tie.Need-returns
-unfolding steps _and_
-returns c =
-    λ im.
-    (passed _ refl
-    (passed _ refl
-    (passed _ refl
-    (taken _ (ap not (ne-eqb _ _ (c .if1 .taken)))))))
+returns c im = stop6 (past5 (past4-free (past3 refl) refl) refl) (c .if1 .taken) im _
 
 returns-2 : tie.Need-returns-2
-unfolding steps _and_
-returns-2 c =
-    λ im.
-    (passed _ refl
-    (passed _ refl
-    (passed _ refl
-    (passed _ (ap not (eq-eqb _ _ (c .before .if1 .left)))
-    (taken _ (ap not (ne-eqb _ _ (c .if2 .taken))))))))
+returns-2 c im = stopP3 (on6 (c .before)) (ne-eqb _ 1 (c .if2 .taken)) im _
 
 returns-3 : tie.Need-returns-3
-unfolding steps _and_
-returns-3 c =
-    λ im.
-    (passed _ refl
-    (passed _ refl
-    (passed _ refl
-    (passed _ (ap not (eq-eqb _ _ (c .before .before .if1 .left)))
-    (passed _ (ap not (eq-eqb _ _ (c .before .if2 .left)))
-    (taken _ (ap not (ne-eqb _ _ (c .if3 .taken)))))))))
+returns-3 c im = stop7 (onP3 (c .before)) (ne-eqb _ 0 (c .if3 .taken)) im _
 
-selects-requires : tie.Need-selects-requires
-selects-requires c κs = search needs
+facts-requires : tie.Need-facts-requires
+facts-requires c κs = search needs
 
 returns-4 : tie.Need-returns-4
-unfolding steps _and_
-returns-4 c =
-    λ im.
-    (passed _ refl
-    (passed _ refl
-    (passed _ refl
-    (passed _ (ap not (eq-eqb _ _ (c .before .before .before .before .if1 .left)))
-    (passed _ (ap not (eq-eqb _ _ (c .before .before .before .if2 .left)))
-    (passed _ (ap not (eq-eqb _ _ (c .before .before .if3 .left)))
-    (taken _ (ap not (ne-eqb _ _ (λ e. c .if4 .taken (e ∙ sym (ap (λ (k : ℕ). k) (c .before .selects .ensures)))))))))))))
+returns-4 c im = stop8 (on7 (c .before .before .before)) _ (ne-eqb _ _ (λ e. c .if4 .taken (e ∙ sym (ap (λ (f : Facts). f .selects) (c .before .before .facts .ensures))))) im
 
 returns-5 : tie.Need-returns-5
-unfolding steps _and_
-returns-5 c =
-    λ im.
-    (passed _ refl
-    (passed _ refl
-    (passed _ refl
-    (passed _ (ap not (eq-eqb _ _ (c .before .before .before .before .if1 .left)))
-    (passed _ (ap not (eq-eqb _ _ (c .before .before .before .if2 .left)))
-    (passed _ (ap not (eq-eqb _ _ (c .before .before .if3 .left)))
-    (passed _ (ap not (eq-eqb _ _ (c .if4 .left ∙ ap (λ (k : ℕ). k) (c .before .selects .ensures))))
-    (passed _ refl
-    (passed _ refl
-    (refl))))))))))
+returns-5 c im = past-all (on7 (c .before .before .before)) _ (eq-eqb _ _ (c .if4 .left ∙ ap (λ (f : Facts). f .selects) (c .before .before .facts .ensures))) refl im refl
 
 pub select-order-spec : {M : Type 1} → statement M
 select-order-spec =
-    tie.close (tie.spec add-if1 returns returns-2 returns-3 selects-requires returns-4 returns-5)
+    tie.close
+    (tie.spec
+    add-if1
+    returns
+    returns-2
+    returns-3
+    facts-requires
+    returns-4
+    returns-5)

@@ -1,0 +1,4 @@
+pub mod ProtectionLaws
+pub mod BitLaws
+pub mod PackLaws
+pub mod ScanLaws

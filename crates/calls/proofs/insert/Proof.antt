@@ -1,0 +1,57 @@
+-- `insert` meets its contract: its tests are the rule's, 4, 5 and then the reader's own.
+use borrow.Author.Needs.{needs}
+use mathlib.Core.Path.{refl, sym, ap, _∙_}
+use mathlib.Core.Bool.{not}
+use borrow.Author.Tests.{eq-eqb, ne-eqb}
+use mathlib.Core.List.{[]}
+use Rattle.words.proofs.Choices.{first, rest, taken}
+use Rattle.slot.specs.declared.Slot.{Slot}
+use Rattle.frame.specs.declared.Refusal.{Refusal}
+use Rattle.frame.specs.Exchange.{insertion}
+use Rattle.calls.specs.Calls.{rawInsertion, rawly}
+use Rattle.calls.proofs.CallLaws.{raw-is, raw-down, raw-kept}
+use Rattle.calls.proofs.insert.Statement.{statement}
+use Rattle.calls.proofs.insert.Tie as tie
+
+returns : tie.Need-returns
+unfolding rawInsertion
+returns c = raw-is (first _ _ (ap not (ne-eqb _ 32 (c .if1 .taken)))) (raw-down Refusal.Record (c .before .before .before .args .raw .now) (c .before .before .before .args .image .now) [] refl)
+
+slice-read-if2 : tie.Need-slice-read-if2
+slice-read-if2 c = search needs
+
+returns-2 : tie.Need-returns-2
+unfolding rawInsertion
+returns-2 c = raw-is (rest _ _ (ap not (eq-eqb _ 32 (c .before .before .if1 .left))) ∙ first _ _ (ap not (ne-eqb _ 0 (c .if2 .taken)))) (raw-down Refusal.Occupied (c .before .before .before .before .before .args .raw .now) (c .before .before .before .before .before .args .image .now) [] refl)
+
+empty-requires : tie.Need-empty-requires
+empty-requires c κs = search needs
+
+insert-requires : tie.Need-insert-requires
+insert-requires c κs = search needs
+
+keep-requires : tie.Need-keep-requires
+keep-requires c κs = search needs
+
+same-length : tie.Need-same-length
+same-length c = search needs
+
+returns-3 : tie.Need-returns-3
+unfolding rawInsertion
+returns-3 c =
+    let a = c .before .before .before .before .before .before .before .before .before .before .before .args in
+    raw-is (rest _ _ (ap not (eq-eqb _ 32 (c .before .before .before .before .before .before .before .before .if1 .left))) ∙ rest _ _ (ap not (eq-eqb _ 0 (c .before .before .before .before .before .before .if2 .left))))
+    (raw-is (ap (λ (s : Slot). rawly (a .raw .now) (insertion s (a .kind) (a .image .now))) (sym (c .before .before .before .before .before .empty .ensures))) (raw-kept (a .raw .now) (c .before .before .before .before .insert .ensures) (c .before .before .keep .ensures .0) (c .before .before .keep .ensures .1)))
+
+pub insert-spec : {M : Type 1} → statement M
+insert-spec =
+    tie.close
+    (tie.spec
+    returns
+    slice-read-if2
+    returns-2
+    empty-requires
+    insert-requires
+    keep-requires
+    same-length
+    returns-3)

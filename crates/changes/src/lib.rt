@@ -1,0 +1,72 @@
+// The orders that change the card: D0, D1, 20, D2. Inner functions: each asks that the image is as long as the card's, that the lent tail of
+// the answer buffer is long enough, and that the order fits the card. The rules are those of `orders`.
+
+use chips::Chip;
+use orders::Told;
+use slot::Slot;
+use steps::Order;
+use words::put_two;
+use words::wide;
+ghost use mathlib.Core.Path.{_≡_};
+ghost use mathlib.Core.Bool.{true};
+ghost use Prim.Native.Nat.{_+_, _≤_, _<_};
+ghost use lib.ListN.{length};
+ghost use Rattle.words.specs.Bounds.{leastTail};
+ghost use Rattle.chips.specs.Kinds.{facts};
+ghost use Rattle.orders.specs.Orders.{Does, performed};
+
+pub fn write(
+    chip: Chip,
+    slot: Slot,
+    image: &mut [u8],
+    at: usize,
+    data: &[u8],
+    out: &mut [u8],
+) -> Told
+    requires { ⌜ (leastTail ≤ length (now out)) × (length (now image) ≡ facts chip .size) × (at + length (now «data») ≤ facts chip .memory) × (0 < slot .page) ⌝ }
+    ensures { λ r. ⌜ Does (performed (facts chip) slot (now (image .entry)) (now («data» .entry)) (Order.Write at)) r (now (image .exit)) (now (out .entry)) (now (out .exit)) ⌝ }
+{
+    pages::write(image, at, data, wide(slot.page), chip.facts().page);
+    let len = put_two(out, 0, 0x90, 0x00);
+    Told { len, slot }
+}
+
+pub fn protect(
+    chip: Chip,
+    slot: Slot,
+    image: &mut [u8],
+    at: usize,
+    data: &[u8],
+    out: &mut [u8],
+) -> Told
+    requires { ⌜ (leastTail ≤ length (now out)) × (length (now image) ≡ facts chip .size) × (at + length (now «data») ≤ facts chip .reach) ⌝ }
+    ensures { λ r. ⌜ Does (performed (facts chip) slot (now (image .entry)) (now («data» .entry)) (Order.Protect at)) r (now (image .exit)) (now (out .entry)) (now (out .exit)) ⌝ }
+{
+    bits::protect(image, chip.facts().bits, chip.facts().covered, at, data);
+    let len = put_two(out, 0, 0x90, 0x00);
+    Told { len, slot }
+}
+
+pub fn present(chip: Chip, slot: Slot, image: &mut [u8], guess: &[u8], out: &mut [u8]) -> Told
+    requires { ⌜ (leastTail ≤ length (now out)) × (length (now image) ≡ facts chip .size) × (facts chip .coded ≡ true) × (length (now guess) ≡ facts chip .digits) ⌝ }
+    ensures { λ r. ⌜ Does (performed (facts chip) slot (now (image .entry)) (now (guess .entry)) Order.Present) r (now (image .exit)) (now (out .entry)) (now (out .exit)) ⌝ }
+{
+    let counter = chip.facts().counter;
+    let opens = codes::present(image, counter, chip.facts().full, chip.facts().code, guess);
+    let len = put_two(out, 0, 0x90, image[counter]);
+    if opens {
+        let next = slot.open();
+        return Told { len, slot: next };
+    }
+    let next = slot.close();
+    Told { len, slot: next }
+}
+
+pub fn change(chip: Chip, slot: Slot, image: &mut [u8], code: &[u8], out: &mut [u8]) -> Told
+    requires { ⌜ (leastTail ≤ length (now out)) × (length (now image) ≡ facts chip .size) × (length (now code) ≡ facts chip .digits) ⌝ }
+    ensures { λ r. ⌜ Does (performed (facts chip) slot (now (image .entry)) (now (code .entry)) Order.Change) r (now (image .exit)) (now (out .entry)) (now (out .exit)) ⌝ }
+{
+    pages::store(image, chip.facts().code, code);
+    let len = put_two(out, 0, 0x90, 0x00);
+    Told { len, slot }
+}

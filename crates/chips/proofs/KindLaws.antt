@@ -1,0 +1,128 @@
+-- Laws of the table: each is a test that is computed over the rows, and a fact for each chip.
+use mathlib.Core.Path.{_≡_, refl, ap}
+use mathlib.Core.Bool.{Bool, true, false, not}
+use mathlib.Core.Logic.{_⊎_, inl, inr}
+use Prim.Native.Nat.{_+_, _/_, _%_, _≤_, _<_}
+use lib.Dec.{leb, ltb}
+use borrow.Author.Tests.{eqb-true, leb-true, ltb-true, lt-ltb}
+use Rattle.words.specs.Choice.{_and_, _or_, _means_, _is_}
+use Rattle.words.specs.Bounds.{addresses, largest}
+use Rattle.words.proofs.Choices.{or-true}
+use Rattle.chips.specs.Kinds.{facts}
+use Rattle.chips.specs.declared.Chip.{Chip}
+use Rattle.chips.specs.declared.Facts.{Facts}
+use Rattle.chips.proofs.Each.{allOf, each, each-of}
+
+-- ---- what holds of every kind
+pub record Laid (f : Facts) : Type 0 where
+  pub numbered : 0 < f .kind
+  pub modest : f .size ≤ largest
+  pub front : f .memory ≤ f .size
+  pub four : 4 ≤ f .size
+  pub paged : f .page ≤ f .size
+  pub tally : f .counter + f .digits ≤ f .size
+  pub codes : f .code + f .digits ≤ f .size
+  pub digits : f .digits ≤ 3
+  pub guards : f .bits + (f .covered + 7) / 8 ≤ f .size
+  pub kept : f .covered ≤ f .memory
+  pub span : f .bits + f .covered < addresses
+  pub reached : f .reach ≤ f .covered
+  pub typed : 0 < f .selects
+  pub small : f .full < 256
+
+pub laid : (chip : Chip) → Laid (facts chip)
+unfolding allOf _and_
+laid chip = record {
+  numbered = ltb-true _ _ (each (λ (f : Facts). ltb 0 (f .kind)) refl chip);
+  modest = leb-true _ _ (each (λ (f : Facts). leb (f .size) largest) refl chip);
+  front = leb-true _ _ (each (λ (f : Facts). leb (f .memory) (f .size)) refl chip);
+  four = leb-true _ _ (each (λ (f : Facts). leb 4 (f .size)) refl chip);
+  paged = leb-true _ _ (each (λ (f : Facts). leb (f .page) (f .size)) refl chip);
+  tally = leb-true _ _ (each (λ (f : Facts). leb (f .counter + f .digits) (f .size)) refl chip);
+  codes = leb-true _ _ (each (λ (f : Facts). leb (f .code + f .digits) (f .size)) refl chip);
+  digits = leb-true _ _ (each (λ (f : Facts). leb (f .digits) 3) refl chip);
+  guards = leb-true _ _ (each (λ (f : Facts). leb (f .bits + (f .covered + 7) / 8) (f .size)) refl chip);
+  kept = leb-true _ _ (each (λ (f : Facts). leb (f .covered) (f .memory)) refl chip);
+  span = ltb-true _ _ (each (λ (f : Facts). ltb (f .bits + f .covered) addresses) refl chip);
+  reached = leb-true _ _ (each (λ (f : Facts). leb (f .reach) (f .covered)) refl chip);
+  typed = ltb-true _ _ (each (λ (f : Facts). ltb 0 (f .selects)) refl chip);
+  small = ltb-true _ _ (each (λ (f : Facts). ltb (f .full) 256) refl chip);
+}
+
+-- ---- a code card: the code stands behind the counter, and D1 does not reach the counter's byte or its bit
+pub record Coded (f : Facts) : Type 0 where
+  pub coded : f .coded ≡ true
+  pub inside : f .counter < f .size
+  pub behind : f .counter < f .code
+  pub apart : (f .counter < f .bits) ⊎ (f .bits + (f .reach + 7) / 8 ≤ f .counter)
+  pub opens : 0 < f .full
+  pub long : 2 ≤ f .digits
+  pub pageless : f .page ≡ 0
+
+apart-test : Facts → Bool
+apart-test f = ltb (f .counter) (f .bits) or leb (f .bits + (f .reach + 7) / 8) (f .counter)
+
+apart-told : (f : Facts) → apart-test f ≡ true → (f .counter < f .bits) ⊎ (f .bits + (f .reach + 7) / 8 ≤ f .counter)
+unfolding apart-test
+apart-told f e = go (or-true _ _ e)
+  where
+    go : (ltb (f .counter) (f .bits) ≡ true) ⊎ (leb (f .bits + (f .reach + 7) / 8) (f .counter) ≡ true)
+        → (f .counter < f .bits) ⊎ (f .bits + (f .reach + 7) / 8 ≤ f .counter)
+    go (inl h) = inl (ltb-true _ _ h)
+    go (inr h) = inr (leb-true _ _ h)
+
+abbrev hasCode : Facts → Bool
+hasCode f = f .coded
+
+pub coded : (chip : Chip) → facts chip .coded ≡ true → Coded (facts chip)
+unfolding allOf _and_ _or_ _means_ apart-test
+coded chip c = record {
+  coded = c;
+  inside = ltb-true _ _ (each-of hasCode (λ (f : Facts). ltb (f .counter) (f .size)) refl chip c);
+  behind = ltb-true _ _ (each-of hasCode (λ (f : Facts). ltb (f .counter) (f .code)) refl chip c);
+  apart = apart-told (facts chip) (each-of hasCode apart-test refl chip c);
+  opens = ltb-true _ _ (each-of hasCode (λ (f : Facts). ltb 0 (f .full)) refl chip c);
+  long = leb-true _ _ (each-of hasCode (λ (f : Facts). leb 2 (f .digits)) refl chip c);
+  pageless = eqb-true _ _ (each-of hasCode (λ (f : Facts). f .page is 0) refl chip c);
+}
+
+-- ---- a card without a code: no code bytes, and a counter would stand past the image's end, and beyond every bit
+pub record Codeless (f : Facts) : Type 0 where
+  pub bare : f .digits ≡ 0
+  pub past : f .size ≤ f .counter
+  pub beyond : f .covered ≤ f .counter
+
+abbrev noCode : Facts → Bool
+noCode f = not (f .coded)
+
+pub codeless : (chip : Chip) → facts chip .coded ≡ false → Codeless (facts chip)
+unfolding allOf _and_ _means_
+codeless chip c = record {
+  bare = eqb-true _ _ (each-of noCode (λ (f : Facts). f .digits is 0) refl chip (ap not c));
+  past = leb-true _ _ (each-of noCode (λ (f : Facts). leb (f .size) (f .counter)) refl chip (ap not c));
+  beyond = leb-true _ _ (each-of noCode (λ (f : Facts). leb (f .covered) (f .counter)) refl chip (ap not c));
+}
+
+-- ---- a card with pages: its image is whole chip pages
+pub whole-pages : (chip : Chip) → 0 < facts chip .page → facts chip .size % facts chip .page ≡ 0
+unfolding allOf _and_ _means_
+whole-pages chip h = eqb-true _ _ (each-of (λ (f : Facts). ltb 0 (f .page)) (λ (f : Facts). f .size % f .page is 0) refl chip (lt-ltb _ _ h))
+
+-- ---- where the counter has a bit, the bit stands behind memory and code, and D1 does not reach it
+pub record Guarded (f : Facts) : Type 0 where
+  pub behind : f .memory ≤ f .bits
+  pub beyond : f .code + f .digits ≤ f .bits
+  pub before : f .counter < f .bits
+  pub short : f .reach ≤ f .counter
+
+abbrev hasBit : Facts → Bool
+hasBit f = ltb (f .counter) (f .covered)
+
+pub guarded : (chip : Chip) → facts chip .counter < facts chip .covered → Guarded (facts chip)
+unfolding allOf _and_ _means_
+guarded chip c = record {
+  behind = leb-true _ _ (each-of hasBit (λ (f : Facts). leb (f .memory) (f .bits)) refl chip (lt-ltb _ _ c));
+  beyond = leb-true _ _ (each-of hasBit (λ (f : Facts). leb (f .code + f .digits) (f .bits)) refl chip (lt-ltb _ _ c));
+  before = ltb-true _ _ (each-of hasBit (λ (f : Facts). ltb (f .counter) (f .bits)) refl chip (lt-ltb _ _ c));
+  short = leb-true _ _ (each-of hasBit (λ (f : Facts). leb (f .reach) (f .counter)) refl chip (lt-ltb _ _ c));
+}

@@ -1,0 +1,85 @@
+-- "Cards we model": the kinds of card, as one table of numbers. A new kind is a new row here; the rules below speak of a row's numbers and
+-- never of chips. What each number is, the struct `Facts` says.
+use Prim.Native.Nat.{ℕ}
+use mathlib.Core.Bool.{true, false}
+use mathlib.Core.List.{List, [], _∷_}
+use Rattle.words.specs.Choice.{_⇒_⁏_, _is_}
+use Rattle.chips.specs.declared.Chip.{Chip}
+use Rattle.chips.specs.declared.Chip.the-variants.{I2c1, I2c2, I2c4, I2c8, I2c16, I2c32, I2c64, I2c128, I2c256, Sle4428, Sle4442}
+use Rattle.chips.specs.declared.Facts.{Facts}
+use Rattle.chips.specs.declared.Known.{Known}
+use Rattle.chips.specs.declared.Known.the-variants.{Is, Unknown}
+
+-- An I2C card is memory alone: counter, code and protection bytes would stand past its end, and there are none.
+abbrev pub i2c : ℕ → ℕ → ℕ → ℕ → Facts
+i2c k n p t = record {
+  kind = k;
+  size = n;
+  memory = n;
+  page = p;
+  selects = t;
+  coded = false;
+  full = 0;
+  counter = n;
+  code = n;
+  digits = 0;
+  bits = n;
+  covered = 0;
+  reach = 0;
+}
+
+-- kind, image bytes, chip page, select type
+abbrev pub facts : Chip → Facts
+facts I2c1 = i2c 1 128 8 0x01
+facts I2c2 = i2c 2 256 8 0x01
+facts I2c4 = i2c 3 512 16 0x01
+facts I2c8 = i2c 4 1024 16 0x01
+facts I2c16 = i2c 5 2048 16 0x01
+facts I2c32 = i2c 6 4096 32 0x02
+facts I2c64 = i2c 7 8192 32 0x02
+facts I2c128 = i2c 8 16384 64 0x02
+facts I2c256 = i2c 9 32768 64 0x02
+-- SLE4428 image: 1024 memory bytes, of which 3FDh is the counter and 3FEh, 3FFh the code, then 128 protection bytes
+facts Sle4428 = record {
+  kind = 20;
+  size = 1152;
+  memory = 1024;
+  page = 0;
+  selects = 0x05;
+  coded = true;
+  full = 0xFF;
+  counter = 0x3FD;
+  code = 0x3FE;
+  digits = 2;
+  bits = 1024;
+  covered = 1024;
+  reach = 0x3FD;
+}
+-- SLE4442 image: 256 memory bytes, 4 protection bytes (memory 0..31), counter, 3 code bytes
+facts Sle4442 = record {
+  kind = 30;
+  size = 264;
+  memory = 256;
+  page = 0;
+  selects = 0x06;
+  coded = true;
+  full = 0x07;
+  counter = 260;
+  code = 261;
+  digits = 3;
+  bits = 256;
+  covered = 32;
+  reach = 32;
+}
+
+-- every chip, once
+abbrev pub chips : List Chip
+chips = I2c1 ∷ I2c2 ∷ I2c4 ∷ I2c8 ∷ I2c16 ∷ I2c32 ∷ I2c64 ∷ I2c128 ∷ I2c256 ∷ Sle4428 ∷ Sle4442 ∷ []
+
+-- the chip of a kind number: the one whose row has it
+unfoldable pub chipAmong : ℕ → List Chip → Known
+chipAmong k [] = Unknown
+chipAmong k (chip ∷ rest) = let later = chipAmong k rest in k is facts chip .kind ⇒ Is chip ⁏ later
+
+unfoldable pub chipOf : ℕ → Known
+chipOf k = chipAmong k chips

@@ -1,0 +1,173 @@
+-- `decide` meets its contract: each arm is its instruction, and the ranges are none of them.
+use borrow.Author.Needs.{needs}
+use mathlib.Core.Path.{_≡_, refl, ap}
+use mathlib.Core.Bool.{not}
+use native.Mathlib.Omega.{arith}
+use borrow.Author.Tests.{ne-eqb, le-ltb}
+use lib.ListN.{length}
+use Rattle.words.proofs.Choices.{rest, taken, passed}
+use Rattle.words.specs.Choice.{_⇒_⁏_}
+use Rattle.words.specs.Bytes.{byte}
+use Rattle.chips.specs.Kinds.{facts}
+use Rattle.steps.specs.Steps.{Ins, Select, Page, Read, Counter, Bits, Write, Protect, Present, Change, Other, insOf, place, p3, steps, order}
+use Rattle.steps.specs.declared.Order.{Order}
+use Rattle.steps.specs.declared.Status.{Status}
+use Prim.Native.Nat.{ℕ}
+use Rattle.steps.proofs.Decisions.{order-at}
+use Rattle.decide.proofs.decide.Statement.{statement}
+use Rattle.decide.proofs.decide.Tie as tie
+
+shared-slice-read-if1 : tie.Need-shared-slice-read-if1
+shared-slice-read-if1 c = search needs
+
+returns : tie.Need-returns
+unfolding order
+returns c = passed _ (le-ltb (length (c .before .before .before .before .args .apdu .now)) 5 (omega arith)) (taken _ (ap not (ne-eqb _ 0xFF (c .if1 .taken))))
+
+place-of-requires : tie.Need-place-of-requires
+place-of-requires c κs = search needs
+
+shared-slice-read-wide : tie.Need-shared-slice-read-wide
+shared-slice-read-wide c = search needs
+
+wide-requires : tie.Need-wide-requires
+wide-requires c κs = search needs
+
+byte-at-requires : tie.Need-byte-at-requires
+byte-at-requires c κs = search needs
+
+shared-slice-read-ins : tie.Need-shared-slice-read-ins
+shared-slice-read-ins c = search needs
+
+select-order-requires : tie.Need-select-order-requires
+select-order-requires c κs = search needs
+
+page-order-requires : tie.Need-page-order-requires
+page-order-requires c κs = search needs
+
+read-order-requires : tie.Need-read-order-requires
+read-order-requires c κs = search needs
+
+counter-order-requires : tie.Need-counter-order-requires
+counter-order-requires c κs = search needs
+
+bits-order-requires : tie.Need-bits-order-requires
+bits-order-requires c κs = search needs
+
+write-order-requires : tie.Need-write-order-requires
+write-order-requires c κs = search needs
+
+protect-order-requires : tie.Need-protect-order-requires
+protect-order-requires c κs = search needs
+
+present-order-requires : tie.Need-present-order-requires
+present-order-requires c κs = search needs
+
+change-order-requires : tie.Need-change-order-requires
+change-order-requires c κs = search needs
+
+-- an arm: its handler's steps are those of the pseudo-APDU, INS being the arm's
+arm : (d : tie.After-byte-at) (i : Ins) (v : ℕ) {r : Order} → let a = d .before .before .before .before .before .before .before .before .args in v ≡ byte (a .apdu .now) 5 → insOf (byte (a .apdu .now) 1) ≡ i
+    → r ≡ steps (facts (a .chip)) (a .slot) (a .image .now) (length (a .apdu .now)) (d .before .before .before .place-of .result) (d .before .wide .result) v i
+    → r ≡ order (facts (a .chip)) (a .slot) (a .image .now) (a .apdu .now)
+arm d i v e k h =
+    let a = d .before .before .before .before .before .before .before .before .args in
+    order-at (facts (a .chip)) (a .slot) (a .image .now) (a .apdu .now) _ _ v i (omega arith) (d .before .before .before .before .if1 .left)
+    (d .before .before .before .place-of .ensures .0) (d .before .wide .ensures .0) e k h
+
+returns-2 : tie.Need-returns-2
+unfolding insOf _⇒_⁏_
+returns-2 c = arm (c .before .before .before) Select _ (c .before .before .before .byte-at .ensures) (ap insOf (c .before .match .keys1)) (c .select-order .ensures _)
+
+returns-3 : tie.Need-returns-3
+unfolding insOf _⇒_⁏_
+returns-3 c = arm (c .before .before .before) Page _ (c .before .before .before .byte-at .ensures) (ap insOf (c .before .match .keys2)) (c .page-order .ensures _)
+
+returns-4 : tie.Need-returns-4
+unfolding insOf _⇒_⁏_
+returns-4 c = arm (c .before .before .before) Read _ refl (ap insOf (c .before .match .keys3)) (c .read-order .ensures _ _)
+
+returns-5 : tie.Need-returns-5
+unfolding insOf _⇒_⁏_
+returns-5 c = arm (c .before .before .before) Counter _ refl (ap insOf (c .before .match .keys4)) (c .counter-order .ensures _ _)
+
+returns-6 : tie.Need-returns-6
+unfolding insOf _⇒_⁏_
+returns-6 c = arm (c .before .before .before) Bits _ refl (ap insOf (c .before .match .keys5)) (c .bits-order .ensures _ _)
+
+returns-7 : tie.Need-returns-7
+unfolding insOf _⇒_⁏_
+returns-7 c = arm (c .before .before .before) Write _ refl (ap insOf (c .before .match .keys6)) (c .write-order .ensures _)
+
+returns-8 : tie.Need-returns-8
+unfolding insOf _⇒_⁏_
+returns-8 c = arm (c .before .before .before) Protect _ refl (ap insOf (c .before .match .keys7)) (c .protect-order .ensures _ _)
+
+returns-9 : tie.Need-returns-9
+unfolding insOf _⇒_⁏_
+returns-9 c = arm (c .before .before .before) Present _ refl (ap insOf (c .before .match .keys8)) (c .present-order .ensures _ _)
+
+returns-10 : tie.Need-returns-10
+unfolding insOf _⇒_⁏_
+returns-10 c = arm (c .before .before .before) Change _ refl (ap insOf (c .before .match .keys9)) (c .change-order .ensures _ _)
+
+-- any other INS
+none : (d : tie.After-byte-at) → let a = d .before .before .before .before .before .before .before .before .args in insOf (byte (a .apdu .now) 1) ≡ Other
+    → Order.Refuse Status.Instruction ≡ order (facts (a .chip)) (a .slot) (a .image .now) (a .apdu .now)
+unfolding steps _⇒_⁏_
+none d o =
+    let a = d .before .before .before .before .before .before .before .before .args in
+    let apdu = a .apdu .now in
+    order-at (facts (a .chip)) (a .slot) (a .image .now) apdu (place apdu) (p3 apdu) (byte apdu 5) Other (omega arith) (d .before .before .before .before .if1 .left) refl refl refl o refl
+
+returns-11 : tie.Need-returns-11
+unfolding insOf _⇒_⁏_
+returns-11 c = none (c .before .before) (ap insOf (c .match .keys10))
+
+returns-12 : tie.Need-returns-12
+unfolding insOf _⇒_⁏_
+returns-12 c =
+    let r = c .match .rest in
+    none (c .before .before) (simp (
+      ne-eqb _ 0xA4 (r .0 .0 .0 .0 .0 .0 .0 .0 .0 .1),
+      ne-eqb _ 0x01 (r .0 .0 .0 .0 .0 .0 .0 .0 .1),
+      ne-eqb _ 0xB0 (r .0 .0 .0 .0 .0 .0 .0 .1),
+      ne-eqb _ 0xB1 (r .0 .0 .0 .0 .0 .0 .1),
+      ne-eqb _ 0xB2 (r .0 .0 .0 .0 .0 .1),
+      ne-eqb _ 0xD0 (r .0 .0 .0 .0 .1),
+      ne-eqb _ 0xD1 (r .0 .0 .0 .1),
+      ne-eqb _ 0x20 (r .0 .0 .1),
+      ne-eqb _ 0xD2 (r .0 .1),
+    ))
+
+pub decide-spec : {M : Type 1} → statement M
+decide-spec =
+    tie.close
+    (tie.spec
+    shared-slice-read-if1
+    returns
+    place-of-requires
+    shared-slice-read-wide
+    wide-requires
+    byte-at-requires
+    shared-slice-read-ins
+    select-order-requires
+    page-order-requires
+    read-order-requires
+    counter-order-requires
+    bits-order-requires
+    write-order-requires
+    protect-order-requires
+    present-order-requires
+    change-order-requires
+    returns-2
+    returns-3
+    returns-4
+    returns-5
+    returns-6
+    returns-7
+    returns-8
+    returns-9
+    returns-10
+    returns-11
+    returns-12)

@@ -1,0 +1,103 @@
+-- `handle` meets its contract: each arm is its type.
+use borrow.Author.Needs.{needs}
+use mathlib.Core.Path.{ap}
+use mathlib.Core.Logic.{⊎-elim}
+use Rattle.words.specs.Choice.{_⇒_⁏_}
+use Rattle.faults.specs.Faults.{Request, requestOf}
+use Rattle.faults.proofs.TypeLaws.{other-type}
+use Rattle.frame.specs.Exchange.{reply}
+use Rattle.frame.proofs.AnswerLaws.{gives-is}
+use Rattle.dispatch.proofs.handle.Statement.{statement}
+use Rattle.dispatch.proofs.handle.Tie as tie
+
+shared-slice-read-message-type : tie.Need-shared-slice-read-message-type
+shared-slice-read-message-type c = search needs
+
+power-on-requires : tie.Need-power-on-requires
+power-on-requires c κs = search needs
+
+power-off-requires : tie.Need-power-off-requires
+power-off-requires c κs = search needs
+
+slot-status-requires : tie.Need-slot-status-requires
+slot-status-requires c κs = search needs
+
+transfer-requires : tie.Need-transfer-requires
+transfer-requires c κs = search needs
+
+unsupported-requires : tie.Need-unsupported-requires
+unsupported-requires c κs = search needs
+
+same-length : tie.Need-same-length
+same-length c = search needs
+
+same-length-2 : tie.Need-same-length-2
+same-length-2 c = search needs
+
+returns : tie.Need-returns
+unfolding requestOf _⇒_⁏_
+returns c =
+    let a = c .before .before .before .before .before .before .before .before .before .before .args in
+    gives-is (ap (λ (r : Request). reply r (a .slot) (a .image .now) (a .msg .now)) (ap requestOf (c .before .before .before .before .before .match .keys1))) (c .before .before .power-on .ensures)
+
+same-length-3 : tie.Need-same-length-3
+same-length-3 c = search needs
+
+returns-2 : tie.Need-returns-2
+unfolding requestOf _⇒_⁏_
+returns-2 c =
+    let a = c .before .before .before .before .before .before .before .before .before .args in
+    gives-is (ap (λ (r : Request). reply r (a .slot) (a .image .now) (a .msg .now)) (ap requestOf (c .before .before .before .before .match .keys2))) (c .before .before .power-off .ensures (a .image .now))
+
+same-length-4 : tie.Need-same-length-4
+same-length-4 c = search needs
+
+returns-3 : tie.Need-returns-3
+unfolding requestOf _⇒_⁏_
+returns-3 c =
+    let a = c .before .before .before .before .before .before .before .before .before .args in
+    gives-is (ap (λ (r : Request). reply r (a .slot) (a .image .now) (a .msg .now)) (ap requestOf (c .before .before .before .before .match .keys3))) (c .before .before .slot-status .ensures (a .image .now))
+
+same-length-5 : tie.Need-same-length-5
+same-length-5 c = search needs
+
+same-length-6 : tie.Need-same-length-6
+same-length-6 c = search needs
+
+returns-4 : tie.Need-returns-4
+unfolding requestOf _⇒_⁏_
+returns-4 c =
+    let a = c .before .before .before .before .before .before .before .before .before .before .before .before .args in
+    gives-is (ap (λ (r : Request). reply r (a .slot) (a .image .now) (a .msg .now)) (ap requestOf (c .before .before .before .before .before .before .before .match .keys4))) (c .before .before .before .before .transfer .ensures)
+
+same-length-7 : tie.Need-same-length-7
+same-length-7 c = search needs
+
+returns-5 : tie.Need-returns-5
+unfolding requestOf _⇒_⁏_
+returns-5 c =
+    let a = c .before .before .before .before .before .before .before .before .before .args in
+    gives-is (ap (λ (r : Request). reply r (a .slot) (a .image .now) (a .msg .now)) (⊎-elim (λ w. ap requestOf (w .keys5)) (λ w. let r = w .rest in other-type _ (r .0 .0 .0 .0 .1) (r .0 .0 .0 .1) (r .0 .0 .1) (r .0 .1)) (c .before .before .before .before .match .came))) (c .before .before .unsupported .ensures (a .image .now))
+
+pub handle-spec : {M : Type 1} → statement M
+handle-spec =
+    tie.close
+    (tie.spec
+    shared-slice-read-message-type
+    power-on-requires
+    power-off-requires
+    slot-status-requires
+    transfer-requires
+    unsupported-requires
+    same-length
+    same-length-2
+    returns
+    same-length-3
+    returns-2
+    same-length-4
+    returns-3
+    same-length-5
+    same-length-6
+    returns-4
+    same-length-7
+    returns-5)

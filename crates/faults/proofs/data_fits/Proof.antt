@@ -1,0 +1,36 @@
+-- `data_fits` meets its contract: each arm is its line of the table.
+use mathlib.Core.Path.{sym, ap}
+use Prim.Native.Nat.{ℕ}
+use Rattle.words.specs.Choice.{_⇒_⁏_}
+use Rattle.faults.specs.Faults.{Request, requestOf, dataFits}
+use Rattle.faults.proofs.TypeLaws.{other-type}
+use Rattle.faults.proofs.data_fits.Statement.{statement}
+use Rattle.faults.proofs.data_fits.Tie as tie
+
+returns : tie.Need-returns
+unfolding requestOf _⇒_⁏_
+returns c = sym (ap (λ (b : ℕ). dataFits (requestOf b) (c .before .args .n)) (c .match .keys1))
+
+returns-2 : tie.Need-returns-2
+unfolding requestOf _⇒_⁏_
+returns-2 c = sym (ap (λ (b : ℕ). dataFits (requestOf b) (c .before .args .n)) (c .match .keys2))
+
+returns-3 : tie.Need-returns-3
+unfolding requestOf _⇒_⁏_
+returns-3 c = sym (ap (λ (b : ℕ). dataFits (requestOf b) (c .before .args .n)) (c .match .keys3))
+
+returns-4 : tie.Need-returns-4
+unfolding requestOf _⇒_⁏_
+returns-4 c = sym (ap (λ (b : ℕ). dataFits (requestOf b) (c .before .args .n)) (c .match .keys4))
+
+returns-5 : tie.Need-returns-5
+unfolding requestOf _⇒_⁏_
+returns-5 c = sym (ap (λ (b : ℕ). dataFits (requestOf b) (c .before .args .n)) (c .match .keys5))
+
+returns-6 : tie.Need-returns-6
+returns-6 c =
+    let r = c .match .rest in
+    sym (ap (λ (q : Request). dataFits q (c .before .args .n)) (other-type _ (r .0 .0 .0 .0 .1) (r .0 .0 .0 .1) (r .0 .0 .1) (r .0 .1)))
+
+pub data-fits-spec : {M : Type 1} → statement M
+data-fits-spec = tie.close (tie.spec returns returns-2 returns-3 returns-4 returns-5 returns-6)

@@ -1,0 +1,53 @@
+-- `header_fault` meets its contract: each arm is its line of the table.
+use borrow.Author.Needs.{needs}
+use mathlib.Core.Path.{sym, ap, _∙_}
+use Prim.Native.Nat.{ℕ}
+use Rattle.words.specs.Choice.{_⇒_⁏_}
+use Rattle.faults.specs.Faults.{Request, requestOf, headerFault}
+use Rattle.faults.proofs.TypeLaws.{other-type}
+use Rattle.faults.proofs.header_fault.Statement.{statement}
+use Rattle.faults.proofs.header_fault.Tie as tie
+
+power-fault-requires : tie.Need-power-fault-requires
+power-fault-requires c κs = search needs
+
+level-fault-requires : tie.Need-level-fault-requires
+level-fault-requires c κs = search needs
+
+returns : tie.Need-returns
+unfolding requestOf _⇒_⁏_
+returns c = c .power-fault .ensures ∙ sym (ap (λ (b : ℕ). headerFault (requestOf b) (c .before .before .before .args .msg .now)) (c .before .match .keys1))
+
+returns-2 : tie.Need-returns-2
+unfolding requestOf _⇒_⁏_
+returns-2 c = sym (ap (λ (b : ℕ). headerFault (requestOf b) (c .before .before .args .msg .now)) (c .match .keys2))
+
+returns-3 : tie.Need-returns-3
+unfolding requestOf _⇒_⁏_
+returns-3 c = sym (ap (λ (b : ℕ). headerFault (requestOf b) (c .before .before .args .msg .now)) (c .match .keys3))
+
+returns-4 : tie.Need-returns-4
+unfolding requestOf _⇒_⁏_
+returns-4 c = c .level-fault .ensures ∙ sym (ap (λ (b : ℕ). headerFault (requestOf b) (c .before .before .before .args .msg .now)) (c .before .match .keys4))
+
+returns-5 : tie.Need-returns-5
+unfolding requestOf _⇒_⁏_
+returns-5 c = sym (ap (λ (b : ℕ). headerFault (requestOf b) (c .before .before .args .msg .now)) (c .match .keys5))
+
+returns-6 : tie.Need-returns-6
+returns-6 c =
+    let r = c .match .rest in
+    sym (ap (λ (q : Request). headerFault q (c .before .before .args .msg .now)) (other-type _ (r .0 .0 .0 .0 .1) (r .0 .0 .0 .1) (r .0 .0 .1) (r .0 .1)))
+
+pub header-fault-spec : {M : Type 1} → statement M
+header-fault-spec =
+    tie.close
+    (tie.spec
+    power-fault-requires
+    level-fault-requires
+    returns
+    returns-2
+    returns-3
+    returns-4
+    returns-5
+    returns-6)

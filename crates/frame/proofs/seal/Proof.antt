@@ -1,0 +1,66 @@
+-- `seal` meets its contract: each byte of the header is the rule's.
+use borrow.Author.Needs.{needs}
+use mathlib.Core.Path.{_≡_, refl, ap, _∙_}
+use Prim.Native.Nat.{ℕ}
+use mathlib.Core.List.{List}
+use Rattle.words.specs.Bytes.{over}
+use Rattle.faults.specs.Faults.{bSlot, bSeq}
+use Rattle.frame.specs.Answers.{bError, cardState, bStatus, byte9, header}
+use Rattle.frame.proofs.seal.Statement.{statement}
+use Rattle.frame.proofs.seal.Tie as tie
+
+shared-slice-read-bslot : tie.Need-shared-slice-read-bslot
+shared-slice-read-bslot c = search needs
+
+state-of-requires : tie.Need-state-of-requires
+state-of-requires c κs = search needs
+
+shared-slice-read-put-header : tie.Need-shared-slice-read-put-header
+shared-slice-read-put-header c = search needs
+
+status-of-requires : tie.Need-status-of-requires
+status-of-requires c κs = search needs
+
+error-of-requires : tie.Need-error-of-requires
+error-of-requires c κs = search needs
+
+last-of-requires : tie.Need-last-of-requires
+last-of-requires c κs = search needs
+
+put-header-requires : tie.Need-put-header-requires
+put-header-requires c κs = search needs
+
+add-t18 : tie.Need-add-t18
+add-t18 c = search needs
+
+same-length : tie.Need-same-length
+same-length c = search needs
+
+returns : tie.Need-returns
+returns c =
+    let a = c .before .before .before .before .before .before .before .before .before .before .before .before .args in
+    let m : List ℕ = a .msg .now in
+    let st : ℕ = cardState (bSlot m) (a .slot) in
+    let status : c .before .before .before .before .before .status-of .result ≡ bStatus (a .fault) st = c .before .before .before .before .before .status-of .ensures ∙ ap (bStatus (a .fault)) (c .before .before .before .before .before .before .before .before .state-of .ensures .0) in
+    let last : c .before .before .before .last-of .result ≡ byte9 (a .answer-type) st = c .before .before .before .last-of .ensures ∙ ap (byte9 (a .answer-type)) (c .before .before .before .before .before .before .before .before .state-of .ensures .0) in
+    let hd : ℕ → ℕ → ℕ → List ℕ = λ x y z. over (header (a .answer-type) (a .len) (bSlot m) (bSeq m) x y z) (a .answer .now) in
+    record {
+      verdict = refl;
+      slot = refl;
+      buffer = c .before .before .put-header .ensures ∙ ap (λ (x : ℕ). hd x (c .before .before .before .before .error-of .result) (c .before .before .before .last-of .result)) status ∙ ap (λ (y : ℕ). hd (bStatus (a .fault) st) y (c .before .before .before .last-of .result)) (c .before .before .before .before .error-of .ensures) ∙ ap (hd (bStatus (a .fault) st) (bError (a .fault))) last;
+    }
+
+pub seal-spec : {M : Type 1} → statement M
+seal-spec =
+    tie.close
+    (tie.spec
+    shared-slice-read-bslot
+    state-of-requires
+    shared-slice-read-put-header
+    status-of-requires
+    error-of-requires
+    last-of-requires
+    put-header-requires
+    add-t18
+    same-length
+    returns)

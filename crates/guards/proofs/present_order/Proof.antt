@@ -1,0 +1,63 @@
+-- `present_order` meets its contract: its tests are the steps, in their order.
+use borrow.Author.Needs.{needs}
+use mathlib.Core.Path.{refl, sym, ap, _∙_}
+use borrow.Author.Tests.{eq-eqb, ne-eqb, not-true, not-false}
+use Rattle.chips.specs.declared.Facts.{Facts}
+use Rattle.chips.specs.Kinds.{facts}
+use Rattle.steps.specs.Steps.{Present}
+use Rattle.steps.proofs.StepLaws.{Past4, Past5, Past6, PastP3, past3, past4, past5, past6, pastP3, past7, past-all, stop4, stop5, stop6, stopP3, stop7}
+use Rattle.guards.proofs.present_order.Statement.{statement}
+use Rattle.guards.proofs.present_order.Tie as tie
+
+on4 : (c : tie.Else1) → let a = c .before .before .args in Past4 (facts (a .chip)) (a .slot) (a .n) (a .at) (a .p) Present
+on4 c = past4 (past3 refl) (c .if1 .left)
+
+on5 : (c : tie.Else2) → let a = c .before .before .before .before .before .args in Past5 (facts (a .chip)) (a .slot) (a .n) (a .at) (a .p) Present
+on5 c = past5 (on4 (c .before .before .before)) (sym (ap (λ (f : Facts). f .coded) (c .before .before .facts .ensures)) ∙ not-false _ (c .if2 .left))
+
+on6 : (c : tie.Else3) → let a = c .before .before .before .before .before .before .args in Past6 (facts (a .chip)) (a .slot) (a .n) (a .at) (a .p) Present
+on6 c = past6 (on5 (c .before)) (c .if3 .left)
+
+onP3 : (c : tie.Else4) → let a = c .before .before .before .before .before .before .before .before .before .args in PastP3 (facts (a .chip)) (a .slot) (a .n) (a .at) (a .p) Present
+onP3 c = pastP3 (on6 (c .before .before .before)) (eq-eqb _ _ (c .if4 .left ∙ ap (λ (f : Facts). f .digits) (c .before .before .facts2 .ensures)))
+
+returns : tie.Need-returns
+returns c im v = stop4 (past3 refl) refl (c .if1 .taken) im v
+
+facts-requires : tie.Need-facts-requires
+facts-requires c κs = search needs
+
+returns-2 : tie.Need-returns-2
+returns-2 c im v = stop5 (on4 (c .before .before .before)) (sym (ap (λ (f : Facts). f .coded) (c .before .before .facts .ensures)) ∙ not-true _ (c .if2 .taken)) im v
+
+add-if3 : tie.Need-add-if3
+add-if3 c = search needs
+
+returns-3 : tie.Need-returns-3
+returns-3 c im v = stop6 (on5 (c .before)) (c .if3 .taken) im v
+
+facts-requires-2 : tie.Need-facts-requires-2
+facts-requires-2 c κs = search needs
+
+returns-4 : tie.Need-returns-4
+returns-4 c im v = stopP3 (on6 (c .before .before .before)) (ne-eqb _ _ (λ e. c .if4 .taken (e ∙ sym (ap (λ (f : Facts). f .digits) (c .before .before .facts2 .ensures))))) im v
+
+returns-5 : tie.Need-returns-5
+returns-5 c im v = stop7 (onP3 (c .before)) (ne-eqb _ 0 (c .if5 .taken)) im v
+
+returns-6 : tie.Need-returns-6
+returns-6 c im v = past-all (past7 (onP3 (c .before)) (eq-eqb _ 0 (c .if5 .left))) v refl refl im refl
+
+pub present-order-spec : {M : Type 1} → statement M
+present-order-spec =
+    tie.close
+    (tie.spec
+    returns
+    facts-requires
+    returns-2
+    add-if3
+    returns-3
+    facts-requires-2
+    returns-4
+    returns-5
+    returns-6)

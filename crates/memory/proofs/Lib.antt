@@ -1,4 +1,0 @@
-pub mod ReadLaws
-pub mod PageLaws
-pub mod PackLaws
-pub mod CodeLaws

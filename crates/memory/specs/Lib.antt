@@ -1,4 +1,0 @@
-pub mod Reads
-pub mod Pages
-pub mod Codes
-pub mod Inner

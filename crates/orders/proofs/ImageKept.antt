@@ -1,0 +1,165 @@
+-- What an order leaves of the image: its length always, the counter unless a code is presented, and being a card of its kind; while the
+-- card is closed nothing but a presented code changes a byte of a code card.
+use mathlib.Core.Path.{_≡_, refl, sym, ap, _∙_, subst⁻¹}
+use mathlib.Core.List.{List}
+use mathlib.Core.Bool.{Bool, true, false, not, true≢false}
+use mathlib.Core.Logic.{_⊎_, inl, inr}
+use Prim.Native.Nat.{ℕ, _+_, _/_, _≤_, _<_}
+use native.Mathlib.Omega.{arith}
+use lib.ListN.{length}
+use lib.Seq.{sets, length-sets}
+use lib.Dec.{ltb}
+use borrow.Author.Tests.{eq-eqb, ltb-true, ltb-false}
+use Rattle.words.specs.Choice.{_and_}
+use Rattle.words.specs.Bytes.{byte}
+use Rattle.words.proofs.Choices.{either, first}
+use Rattle.words.proofs.Lists.{byte-sets}
+use Rattle.chips.specs.declared.Chip.{Chip}
+use Rattle.chips.specs.declared.Facts.{Facts}
+use Rattle.chips.specs.Kinds.{facts}
+use Rattle.bits.specs.Bits.{protectionBit, isProtected}
+use Rattle.codes.proofs.CounterLaws.{spent-le}
+use Rattle.bits.proofs.ProtectionLaws.{length-protectEqual, byte-protectEqual, protected-beyond}
+use Rattle.bits.proofs.BitLaws.{bit-protectEqual, bit-same, protected-same}
+use Rattle.chips.proofs.KindLaws.{Coded, coded, Guarded, guarded}
+use Rattle.card.proofs.ImageLaws.{IsCard, plain-card}
+use Rattle.slot.specs.declared.Slot.{Slot}
+use Rattle.pages.proofs.PageLaws.{length-pageWrite}
+use Rattle.codes.proofs.CodeLaws.{presenting-either, length-presenting, byte-presenting, byte-spending, byte-full}
+use Rattle.steps.specs.declared.Order.{Order}
+use Rattle.steps.specs.Steps.{Ins, Select, Page, Read, Counter, Bits, Write, Protect, Present, Change, Other, place, p3, body, ordered, presents, order}
+use Rattle.pages.specs.Pages.{written}
+use Rattle.orders.specs.Orders.{imageBy}
+use Rattle.steps.proofs.Decisions.{Passed, Decided, refused, through, decided}
+use Rattle.steps.proofs.PresentAgain.{presents-is}
+use Rattle.steps.specs.Fits.{Fit}
+
+-- ---- the length
+module _ (f : Facts) (s : Slot) (image b : List ℕ) where
+  pub length-written : (page at : ℕ) → length (written page (f .page) image at b) ≡ length image
+  unfolding written
+  length-written page at = either (λ (l : List ℕ). length l ≡ length image) _ (λ _. length-sets image at b) (λ _. length-pageWrite page (f .page) image at at b)
+
+  pub length-imageBy : (o : Order) → length (imageBy f s image b o) ≡ length image
+  unfolding imageBy
+  length-imageBy (Order.Refuse status) = refl
+  length-imageBy Order.Select = refl
+  length-imageBy (Order.Page p) = refl
+  length-imageBy (Order.Read at n) = refl
+  length-imageBy (Order.Counter n) = refl
+  length-imageBy (Order.Bits at n) = refl
+  length-imageBy (Order.Write at) = length-written (s .page) at
+  length-imageBy (Order.Protect at) = length-protectEqual (f .bits) (f .covered) image at b
+  length-imageBy Order.Present = length-presenting (f .counter) (f .full) (f .code) (f .digits) image b
+  length-imageBy Order.Change = length-sets image (f .code) b
+
+-- ---- the counter, and its protection bit
+module _ (f : Facts) (c : Coded f) (s : Slot) (image b : List ℕ) where
+  pub written-sets : (page at : ℕ) → written page (f .page) image at b ≡ sets image at b
+  unfolding written
+  written-sets page at = first _ _ (eq-eqb _ _ (c .pageless))
+
+  -- an order that presents no code leaves the counter
+  pub counter-kept : (o : Order) → Fit f b o → presents o ≡ false → byte (imageBy f s image b o) (f .counter) ≡ byte image (f .counter)
+  unfolding imageBy
+  counter-kept (Order.Refuse status) h ne = refl
+  counter-kept Order.Select h ne = refl
+  counter-kept (Order.Page p) h ne = refl
+  counter-kept (Order.Read at n) h ne = refl
+  counter-kept (Order.Counter n) h ne = refl
+  counter-kept (Order.Bits at n) h ne = refl
+  counter-kept (Order.Write at) h ne = ap (λ (l : List ℕ). byte l (f .counter)) (written-sets (s .page) at) ∙ byte-sets image at b (f .counter) (go (h .2))
+    where
+      go : (at + length b ≤ f .counter) ⊎ (f .counter < at) → (f .counter < at) ⊎ (at + length b ≤ f .counter)
+      go (inl k) = inr k
+      go (inr k) = inl k
+  counter-kept (Order.Protect at) h ne = byte-protectEqual (f .bits) (f .covered) image at b (f .counter) (go (c .apart))
+    where
+      go : (f .counter < f .bits) ⊎ (f .bits + (f .reach + 7) / 8 ≤ f .counter) → (f .counter < f .bits) ⊎ (f .bits + (at + length b + 7) / 8 ≤ f .counter)
+      go (inl k) = inl k
+      go (inr k) = inr (omega arith)
+  counter-kept Order.Present h ne = absurd (true≢false ne)
+  counter-kept Order.Change h ne = byte-sets image (f .code) b (f .counter) (inl (c .behind))
+
+  -- where the counter has a protection bit of its own, every order leaves it
+  pub bit-kept : Guarded f → (o : Order) → Fit f b o → protectionBit (f .bits) (f .covered) (imageBy f s image b o) (f .counter) ≡ protectionBit (f .bits) (f .covered) image (f .counter)
+  unfolding imageBy
+  bit-kept g (Order.Refuse status) h = refl
+  bit-kept g Order.Select h = refl
+  bit-kept g (Order.Page p) h = refl
+  bit-kept g (Order.Read at n) h = refl
+  bit-kept g (Order.Counter n) h = refl
+  bit-kept g (Order.Bits at n) h = refl
+  bit-kept g (Order.Write at) h =
+      ap (λ (l : List ℕ). protectionBit (f .bits) (f .covered) l (f .counter)) (written-sets (s .page) at)
+      ∙ bit-same (f .bits) (f .covered) image (sets image at b) (f .counter)
+      (byte-sets image at b (f .bits + f .counter / 8) (inr (omega (arith, h .0, g .behind))))
+  bit-kept g (Order.Protect at) h = bit-protectEqual (f .bits) (f .covered) image at b (f .counter) (inr (omega (arith, g .short)))
+  bit-kept g Order.Present h =
+      bit-same (f .bits) (f .covered) image _ (f .counter)
+      (byte-presenting (f .counter) (f .full) (f .code) (f .digits) image b (f .bits + f .counter / 8) (λ e. omega (arith, g .before)))
+  bit-kept g Order.Change h =
+      bit-same (f .bits) (f .covered) image (sets image (f .code) b) (f .counter)
+      (byte-sets image (f .code) b (f .bits + f .counter / 8) (inr (omega (arith, h .1, g .beyond))))
+
+  -- a presented code leaves the counter at most full
+  present-within : IsCard f image → byte (imageBy f s image b Order.Present) (f .counter) ≤ f .full
+  unfolding imageBy
+  present-within k =
+      let inside : f .counter < length image = omega (arith, k .long, c .inside) in
+      presenting-either (f .counter) (f .full) (f .code) (f .digits) image b (λ (l : List ℕ). byte l (f .counter) ≤ f .full)
+      (k .within)
+      (omega (arith, byte-spending (f .counter) (f .full) (f .code) (f .digits) image b inside, spent-le (byte image (f .counter)), k .within))
+      (omega (arith, byte-full (f .counter) (f .full) (f .code) (f .digits) image b inside))
+
+  pub within-kept : IsCard f image → (o : Order) → Fit f b o → byte (imageBy f s image b o) (f .counter) ≤ f .full
+  within-kept k o h = go (presents o) refl
+    where
+      go : (t : Bool) → presents o ≡ t → byte (imageBy f s image b o) (f .counter) ≤ f .full
+      go true e = subst⁻¹ (λ (o : Order). byte (imageBy f s image b o) (f .counter) ≤ f .full) (presents-is o e) (present-within k)
+      go false e = omega (arith, counter-kept o h e, k .within)
+
+-- ---- a card stays a card of its kind
+pub card-kept : (chip : Chip) (s : Slot) (image b : List ℕ) (o : Order) → IsCard (facts chip) image → Fit (facts chip) b o → IsCard (facts chip) (imageBy (facts chip) s image b o)
+card-kept chip s image b o k h = go (facts chip .coded) refl
+  where
+    f : Facts
+    f = facts chip
+
+    long : length (imageBy f s image b o) ≡ f .size
+    long = length-imageBy f s image b o ∙ k .long
+
+    bare : Coded f → (t : Bool) → ltb (f .counter) (f .covered) ≡ t → isProtected (f .bits) (f .covered) (imageBy f s image b o) (f .counter) ≡ false
+    bare c false e = protected-beyond (f .bits) (f .covered) _ (f .counter) (ltb-false _ _ e)
+    bare c true e = protected-same (f .bits) (f .covered) image _ (f .counter) (bit-kept f c s image b (guarded chip (ltb-true _ _ e)) o h) ∙ k .bare
+
+    go : (t : Bool) → f .coded ≡ t → IsCard f (imageBy f s image b o)
+    go false e = plain-card chip _ e long
+    go true e = record { long = long; within = within-kept f (coded chip e) s image b k o h; bare = bare (coded chip e) (ltb (f .counter) (f .covered)) refl }
+
+-- ---- a closed card
+module _ (f : Facts) (s : Slot) (image d : List ℕ) (coded : f .coded ≡ true) (shut : s .«open» ≡ false) where
+  denied : {A : Type 0} → f .coded and not (s .«open») ≡ false → A
+  unfolding _and_
+  denied e = absurd (true≢false (sym (ap (λ (t : Bool). t and not (s .«open»)) coded ∙ ap not shut) ∙ e))
+
+  shut-decided : {o : Order} → Decided f s image d o → presents o ≡ false → imageBy f s image (body d) o ≡ image
+  unfolding imageBy _and_
+  shut-decided (refused status) ne = refl
+  shut-decided (through i p) ne = go i p ne
+    where
+      go : (i : Ins) → Passed f s image d i → presents (ordered i (place d) (p3 d) (byte d 5)) ≡ false → imageBy f s image (body d) (ordered i (place d) (p3 d) (byte d 5)) ≡ image
+      go Select p ne = refl
+      go Page p ne = refl
+      go Read p ne = refl
+      go Counter p ne = refl
+      go Bits p ne = refl
+      go Write p ne = denied (p .allowed)
+      go Protect p ne = denied (p .allowed)
+      go Present p ne = absurd (true≢false ne)
+      go Change p ne = denied (p .allowed)
+      go Other p ne = refl
+
+  -- nothing but a presented code changes a byte
+  pub shut-kept : presents (order f s image d) ≡ false → imageBy f s image (body d) (order f s image d) ≡ image
+  shut-kept = shut-decided (decided f s image d)

@@ -1,0 +1,4 @@
+pub mod Tells
+pub mod Lengths
+pub mod ImageKept
+pub mod SlotKept

@@ -1,0 +1,125 @@
+-- What an order leaves of the slot: the same card, and a sound record beside the image as it is afterwards.
+use mathlib.Core.Path.{_≡_, refl, sym, ap, _∙_, subst}
+use mathlib.Core.List.{List}
+use mathlib.Core.Bool.{Bool, true, false}
+use mathlib.Core.Logic.{_⊎_, inl, inr}
+use Prim.Native.Nat.{ℕ, zero, suc, _^_, _≤_}
+use native.Mathlib.Omega.{arith}
+use lib.Dec.{leb}
+use borrow.Author.Tests.{eq-eqb, eqb-false, leb-true}
+use Rattle.words.specs.Choice.{_and_, _or_, _is_}
+use Rattle.words.specs.Bytes.{byte}
+use Rattle.words.proofs.Choices.{either, and-true, both}
+use Rattle.chips.specs.declared.Chip.{Chip}
+use Rattle.chips.specs.declared.Facts.{Facts}
+use Rattle.chips.specs.Kinds.{facts}
+use Rattle.chips.proofs.KindLaws.{Coded, coded}
+use Rattle.card.proofs.ImageLaws.{IsCard}
+use Rattle.slot.specs.declared.Holds.{Holds}
+use Rattle.slot.specs.declared.Holds.the-variants.{Card}
+use Rattle.slot.specs.declared.Slot.{Slot}
+use Rattle.slot.specs.Slots.{occupied, ownType, selecting}
+use Rattle.sound.specs.Sound.{fullCode, pageSize}
+use Rattle.sound.proofs.SoundLaws.{Sound, image-sound, selecting-sound, paged-sound, opened-sound, closed-sound}
+use Rattle.codes.proofs.CodeLaws.{accepts-full}
+use Rattle.steps.specs.declared.Order.{Order}
+use Rattle.steps.specs.Steps.{Ins, Select, Page, Read, Counter, Bits, Write, Protect, Present, Change, Other, place, p3, body, ordered, presents, order}
+use Rattle.orders.specs.Orders.{afterCode, rightCode, imageBy, slotBy}
+use Rattle.steps.proofs.Decisions.{Passed, Decided, refused, through, decided, fit-decided}
+use Rattle.steps.specs.Fits.{Fit}
+use Rattle.orders.proofs.ImageKept.{counter-kept}
+
+-- the card stays the same card
+pub slotBy-holds : (f : Facts) (s : Slot) (image b : List ℕ) (o : Order) → slotBy f s image b o .holds ≡ s .holds
+unfolding slotBy
+slotBy-holds f s image b (Order.Refuse status) = refl
+slotBy-holds f s image b Order.Select = refl
+slotBy-holds f s image b (Order.Page p) = refl
+slotBy-holds f s image b (Order.Read at n) = refl
+slotBy-holds f s image b (Order.Counter n) = refl
+slotBy-holds f s image b (Order.Bits at n) = refl
+slotBy-holds f s image b (Order.Write at) = refl
+slotBy-holds f s image b (Order.Protect at) = refl
+slotBy-holds f s image b Order.Present = either (λ (x : Slot). x .holds ≡ s .holds) _ (λ _. refl) (λ _. refl)
+slotBy-holds f s image b Order.Change = refl
+
+-- the codes 03h..07h give page sizes
+pub page-sized : (v : ℕ) → leb 3 v and leb v 7 ≡ true → pageSize (2 ^ v) ≡ true
+unfolding pageSize _or_
+page-sized v e = go v (leb-true _ _ (and-true _ _ e .0)) (leb-true _ _ (and-true _ _ e .1))
+  where
+    go : (v : ℕ) → 3 ≤ v → v ≤ 7 → pageSize (2 ^ v) ≡ true
+    go zero h k = absurd (omega arith)
+    go (suc zero) h k = absurd (omega arith)
+    go (suc (suc zero)) h k = absurd (omega arith)
+    go (suc (suc (suc zero))) h k = refl
+    go (suc (suc (suc (suc zero)))) h k = refl
+    go (suc (suc (suc (suc (suc zero))))) h k = refl
+    go (suc (suc (suc (suc (suc (suc zero)))))) h k = refl
+    go (suc (suc (suc (suc (suc (suc (suc zero))))))) h k = refl
+    go (suc (suc (suc (suc (suc (suc (suc (suc v)))))))) h k = absurd (omega arith)
+
+-- whether a counter is full is told by its byte alone, and an I2C card has none
+full-same : (chip : Chip) (image image′ : List ℕ) → (facts chip .coded ≡ true → byte image′ (facts chip .counter) ≡ byte image (facts chip .counter))
+    → fullCode (Card chip) image′ ≡ fullCode (Card chip) image
+unfolding _and_
+full-same chip image image′ h = go (facts chip .coded) h
+  where
+    go : (t : Bool) → (t ≡ true → byte image′ (facts chip .counter) ≡ byte image (facts chip .counter))
+        → (t and byte image′ (facts chip .counter) is facts chip .full) ≡ (t and byte image (facts chip .counter) is facts chip .full)
+    go true h = ap (λ (n : ℕ). n is facts chip .full) (h refl)
+    go false h = refl
+
+module _ (chip : Chip) (s : Slot) (image d : List ℕ) (holds : s .holds ≡ Card chip) (on : s .active ≡ true) (card : IsCard (facts chip) image) (r : Sound s image) where
+  abbrev After : Order → Type 0
+  After o = Sound (slotBy (facts chip) s image (body d) o) (imageBy (facts chip) s image (body d) o)
+
+  -- a changed image under the same record
+  moved : (o : Order) → Fit (facts chip) (body d) o → presents o ≡ false → Sound s (imageBy (facts chip) s image (body d) o)
+  moved o h ne =
+      let im : List ℕ = imageBy (facts chip) s image (body d) o in
+      image-sound s image im
+      (ap (λ (x : Holds). fullCode x im) holds
+      ∙ full-same chip image im (λ e. counter-kept (facts chip) (coded chip e) s image (body d) o h ne)
+      ∙ sym (ap (λ (x : Holds). fullCode x image) holds))
+      r
+
+  -- a selected type is the card's own
+  chosen : s .selected is 0 ≡ false → s .selected ≡ ownType (s .holds)
+  chosen e = go (r .own)
+    where
+      go : (s .selected ≡ 0) ⊎ (s .selected ≡ ownType (s .holds)) → s .selected ≡ ownType (s .holds)
+      go (inl h) = absurd (eqb-false _ _ e h)
+      go (inr h) = h
+
+  presented : facts chip .coded ≡ true → s .selected is 0 ≡ false → After Order.Present
+  unfolding slotBy imageBy
+  presented e t =
+      let c : Coded (facts chip) = coded chip e in
+      either (λ (x : Slot). Sound x (afterCode (facts chip) image (body d))) (rightCode (facts chip) image (body d))
+      (λ yes. opened-sound s image on _ r
+      (ap (λ (x : Holds). fullCode x (afterCode (facts chip) image (body d))) holds
+      ∙ both e (eq-eqb _ _ (accepts-full (facts chip .counter) (facts chip .full) (facts chip .code) (facts chip .digits) image (body d) (omega (arith, card .long, c .inside)) yes)))
+      (chosen t))
+      (λ no. closed-sound s image on _ r)
+
+  pub decided-sound : {o : Order} → Decided (facts chip) s image d o → After o
+  unfolding slotBy imageBy _and_
+  decided-sound (refused status) = r
+  decided-sound (through i p) = go i p
+    where
+      go : (i : Ins) → Passed (facts chip) s image d i → After (ordered i (place d) (p3 d) (byte d 5))
+      go Select p = subst (λ (t : ℕ). Sound (selecting t s) image) (ap ownType holds) (selecting-sound s image on image r)
+      go Page p = paged-sound s image (2 ^ byte d 5) (page-sized (byte d 5) (p .valued)) (ap occupied holds) r
+      go Read p = r
+      go Counter p = r
+      go Bits p = r
+      go Write p = moved (Order.Write (place d)) (fit-decided (facts chip) s image d (through Write p)) refl
+      go Protect p = moved (Order.Protect (place d)) (fit-decided (facts chip) s image d (through Protect p)) refl
+      go Present p = presented (p .had) (p .ready)
+      go Change p = moved Order.Change (fit-decided (facts chip) s image d (through Change p)) refl
+      go Other p = r
+
+  -- a command of an active slot leaves a sound record
+  pub order-sound : After (order (facts chip) s image d)
+  order-sound = decided-sound (decided (facts chip) s image d)

@@ -1,0 +1,90 @@
+-- What an order says and does: the answer's data and status word, the next image, the next slot record.
+use mathlib.Core.Path.{_≡_}
+use Prim.Native.Nat.{ℕ}
+use mathlib.Core.Bool.{Bool}
+use mathlib.Core.List.{List, [], _∷_, _++_}
+use lib.ListN.{length}
+use lib.Seq.{sets}
+use Rattle.words.specs.Choice.{_⇒_⁏_}
+use Rattle.words.specs.Bytes.{byte, over}
+use Rattle.chips.specs.declared.Facts.{Facts}
+use Rattle.bits.specs.Bits.{protectEqual, packedBytes}
+use Rattle.slot.specs.declared.Slot.{Slot}
+use Rattle.slot.specs.Slots.{selecting, paged, opened, closed}
+use Rattle.reads.specs.Reads.{bytesRead, counterRead}
+use Rattle.pages.specs.Pages.{written}
+use Rattle.codes.specs.Codes.{presenting, accepts}
+use Rattle.steps.specs.declared.Order.{Order}
+use Rattle.orders.specs.declared.Told.{Told}
+use Rattle.steps.specs.Steps.{wordOf, order, body}
+
+-- what a message does to a slot and its image, and the data it answers with
+pub record Deed : Type 0 where
+  pub said : List ℕ
+  pub slot : Slot
+  pub image : List ℕ
+
+-- 90 00
+abbrev pub done : List ℕ
+done = 0x90 ∷ 0x00 ∷ []
+
+-- "20": the image, and whether the card is open
+abbrev pub afterCode : Facts → List ℕ → List ℕ → List ℕ
+afterCode f image guess = presenting (f .counter) (f .full) (f .code) (f .digits) image guess
+
+abbrev pub rightCode : Facts → List ℕ → List ℕ → Bool
+rightCode f image guess = accepts (f .counter) (f .full) (f .code) (f .digits) image guess
+
+-- with b the data after P3: what is said,
+unfoldable pub saidBy : Facts → Slot → List ℕ → List ℕ → Order → List ℕ
+saidBy f s image b (Order.Refuse status) = wordOf status
+saidBy f s image b Order.Select = done
+saidBy f s image b (Order.Page p) = done
+saidBy f s image b (Order.Read at n) = bytesRead (f .code) (f .digits) (s .«open») image at n ++ done
+saidBy f s image b (Order.Counter n) = counterRead (f .counter) image n ++ done
+saidBy f s image b (Order.Bits at n) = packedBytes (f .bits) (f .covered) image at n ++ done
+saidBy f s image b (Order.Write at) = done
+saidBy f s image b (Order.Protect at) = done
+saidBy f s image b Order.Present = 0x90 ∷ byte (afterCode f image b) (f .counter) ∷ []
+saidBy f s image b Order.Change = done
+
+-- what the image becomes,
+unfoldable pub imageBy : Facts → Slot → List ℕ → List ℕ → Order → List ℕ
+imageBy f s image b (Order.Refuse status) = image
+imageBy f s image b Order.Select = image
+imageBy f s image b (Order.Page p) = image
+imageBy f s image b (Order.Read at n) = image
+imageBy f s image b (Order.Counter n) = image
+imageBy f s image b (Order.Bits at n) = image
+imageBy f s image b (Order.Write at) = written (s .page) (f .page) image at b
+imageBy f s image b (Order.Protect at) = protectEqual (f .bits) (f .covered) image at b
+imageBy f s image b Order.Present = afterCode f image b
+imageBy f s image b Order.Change = sets image (f .code) b
+
+-- and what the slot record becomes
+unfoldable pub slotBy : Facts → Slot → List ℕ → List ℕ → Order → Slot
+slotBy f s image b (Order.Refuse status) = s
+slotBy f s image b Order.Select = selecting (f .selects) s
+slotBy f s image b (Order.Page p) = paged p s
+slotBy f s image b (Order.Read at n) = s
+slotBy f s image b (Order.Counter n) = s
+slotBy f s image b (Order.Bits at n) = s
+slotBy f s image b (Order.Write at) = s
+slotBy f s image b (Order.Protect at) = s
+slotBy f s image b Order.Present = rightCode f image b ⇒ opened s ⁏ closed s
+slotBy f s image b Order.Change = s
+
+unfoldable pub performed : Facts → Slot → List ℕ → List ℕ → Order → Deed
+performed f s image b o = record { said = saidBy f s image b o; slot = slotBy f s image b o; image = imageBy f s image b o }
+
+-- a command, from the pseudo-APDU
+unfoldable pub commanded : Facts → Slot → List ℕ → List ℕ → Deed
+commanded f s image d = performed f s image (body d) (order f s image d)
+
+-- What a handler leaves behind, where d is what is to be done: the length of what it said, the next slot, the image as it left it, and
+-- the lent buffer, what was said laid over what it held.
+pub record Does (d : Deed) (told : Told) (left was holds : List ℕ) : Type 0 where
+  pub len : told .len ≡ length (d .said)
+  pub slot : told .slot ≡ d .slot
+  pub image : left ≡ d .image
+  pub out : holds ≡ over (d .said) was

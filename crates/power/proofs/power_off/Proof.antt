@@ -1,0 +1,63 @@
+-- `power_off` meets its contract: failed, or the slot is powered off.
+use borrow.Author.Needs.{needs}
+use mathlib.Core.Path.{refl, sym, _∙_}
+use mathlib.Core.Bool.{false}
+use native.Mathlib.Omega.{arith}
+use borrow.Author.Tests.{not-true, not-false}
+use Rattle.words.specs.Choice.{_⇒_⁏_}
+use Rattle.slot.specs.Slots.{powered}
+use Rattle.faults.specs.Faults.{PowerOff, requestOf}
+use Rattle.frame.specs.Exchange.{deed}
+use Rattle.frame.proofs.AnswerLaws.{gives-failed, gives-quiet, sealed-slot}
+use Rattle.power.proofs.power_off.Statement.{statement}
+use Rattle.power.proofs.power_off.Tie as tie
+
+fault-of-requires : tie.Need-fault-of-requires
+fault-of-requires c κs = search needs
+
+is-clear-requires : tie.Need-is-clear-requires
+is-clear-requires c κs = search needs
+
+seal-requires : tie.Need-seal-requires
+seal-requires c κs = search needs
+
+same-length : tie.Need-same-length
+same-length c = search needs
+
+returns : tie.Need-returns
+unfolding requestOf _⇒_⁏_
+returns c image =
+    let a = c .before .before .before .before .before .before .before .before .before .args in
+    let failed = sym (c .before .before .before .before .before .is-clear .ensures) ∙ not-true _ (c .before .before .before .before .if1 .taken) in
+    gives-failed PowerOff (a .slot) image (a .msg .now) (c .before .before .before .before .before .before .fault-of .ensures) (a .answer .now) failed (omega arith) (c .before .before .seal .ensures)
+
+power-requires : tie.Need-power-requires
+power-requires c κs = search needs
+
+seal-requires-2 : tie.Need-seal-requires-2
+seal-requires-2 c κs = search needs
+
+same-length-2 : tie.Need-same-length-2
+same-length-2 c = search needs
+
+returns-2 : tie.Need-returns-2
+unfolding deed requestOf _⇒_⁏_
+returns-2 c image =
+    let a = c .before .before .before .before .before .before .before .before .before .before .args in
+    let clear = sym (c .before .before .before .before .before .before .is-clear .ensures) ∙ not-false _ (c .before .before .before .before .before .if1 .left) in
+    let sealed = sealed-slot (c .before .before .before .before .power .ensures) (c .before .before .seal2 .ensures) in
+    gives-quiet PowerOff (a .slot) image (a .msg .now) (c .before .before .before .before .before .before .before .fault-of .ensures) (a .answer .now) (powered false (a .slot)) clear refl (omega arith) sealed
+
+pub power-off-spec : {M : Type 1} → statement M
+power-off-spec =
+    tie.close
+    (tie.spec
+    fault-of-requires
+    is-clear-requires
+    seal-requires
+    same-length
+    returns
+    power-requires
+    seal-requires-2
+    same-length-2
+    returns-2)

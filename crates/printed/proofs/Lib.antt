@@ -1,0 +1,3 @@
+pub mod Computed
+pub mod Printing
+pub mod TurnLaws

@@ -1,0 +1,78 @@
+-- What comes of a message, taken apart once: it is turned down, or fails, or is heard and obeyed.
+use Prim.Native.Nat.{ℕ}
+use mathlib.Core.Path.{_≡_, refl, sym, _∙_}
+use mathlib.Core.Bool.{true, false, not, false≢true}
+use mathlib.Core.List.{List}
+use lib.ListN.{length}
+use lib.Dec.{leb}
+use borrow.Author.Tests.{ltb-true, ltb-false, lt-leb, le-leb, not-true, not-false}
+use Rattle.words.specs.Bounds.{leastRoom}
+use Rattle.words.proofs.Choices.{either, past, and-true, and-fails, and-holds, both}
+use Rattle.slot.specs.declared.Slot.{Slot}
+use Rattle.sound.specs.Sound.{imageIsCard, sound}
+use Rattle.orders.specs.Orders.{Deed}
+use Rattle.faults.specs.declared.Fault.{Fault}
+use Rattle.faults.specs.Faults.{Request, headerFault, ready, faultOf, isClear}
+use Rattle.frame.specs.declared.Refusal.{Refusal}
+use Rattle.frame.specs.Exchange.{Outcome, turnedDown, idle, deed, answered, replied, reply, served, exchange}
+use Rattle.reader.specs.Runs.{Sent, sending}
+use Rattle.reader.specs.Proper.{Proper}
+use Rattle.reader.specs.Heard.{requested, faulted, heard}
+
+pub data Came (s : Slot) (image : List ℕ) (m : Sent) : Outcome → Type 0 where
+  down : (r : Refusal) → heard s image m ≡ false → Came s image m (turnedDown r s image)
+  failed : Proper s image → heard s image m ≡ false → Came s image m (answered (requested m) (m .message) (faulted s m) (idle s image))
+  obeyed : heard s image m ≡ true → Came s image m (answered (requested m) (m .message) (faulted s m) (deed (requested m) (s .holds) s image (m .message)))
+
+pub came : (s : Slot) (image : List ℕ) (m : Sent) → Came s image m (sending s image m)
+unfolding exchange served reply replied heard
+came s image m =
+    either (Came s image m) _ (λ e. down Refusal.Buffer (sym (and-fails _ (lt-leb leastRoom (m .room) (ltb-true _ _ e))))) (λ e1.
+    let h1 : leb leastRoom (m .room) ≡ true = le-leb leastRoom (m .room) (ltb-false _ _ e1) in
+    either (Came s image m) _ (λ e. down Refusal.Message (sym (and-holds h1 (and-fails _ (lt-leb 10 (length (m .message)) (ltb-true _ _ e)))))) (λ e2.
+    let h2 : leb 10 (length (m .message)) ≡ true = le-leb 10 (length (m .message)) (ltb-false _ _ e2) in
+    either (Came s image m) _ (λ e. down Refusal.Image (sym (and-holds h1 (and-holds h2 (and-fails _ (not-true _ e)))))) (λ e3.
+    let h3 : imageIsCard (s .holds) image ≡ true = not-false _ e3 in
+    either (Came s image m) _ (λ e. down Refusal.Record (sym (and-holds h1 (and-holds h2 (and-holds h3 (and-fails _ (not-true _ e))))))) (λ e4.
+    let h4 : sound s image ≡ true = not-false _ e4 in
+    either (λ (d : Deed). Came s image m (answered (requested m) (m .message) (faulted s m) d)) (isClear (faulted s m))
+    (λ e. obeyed (both h1 (both h2 (both h3 (both h4 e)))))
+    (λ e. failed (record { card = h3; sound = h4 }) (sym (and-holds h1 (and-holds h2 (and-holds h3 (and-holds h4 (sym e)))))))))))
+
+-- ---- what a heard message may count on
+pub heard-proper : (s : Slot) (image : List ℕ) (m : Sent) → heard s image m ≡ true → Proper s image
+unfolding heard
+heard-proper s image m e =
+    let t = and-true _ _ (and-true _ _ (and-true _ _ e .1) .1) in
+    record { card = t .0; sound = and-true _ _ (t .1) .0 }
+
+pub heard-clear : (s : Slot) (image : List ℕ) (m : Sent) → heard s image m ≡ true → isClear (faulted s m) ≡ true
+unfolding heard
+heard-clear s image m e = and-true _ _ (and-true _ _ (and-true _ _ (and-true _ _ e .1) .1) .1) .1
+
+-- no fault is one fault
+pub clear-is : (f : Fault) → isClear f ≡ true → f ≡ Fault.Clear
+clear-is Fault.Clear e = refl
+clear-is Fault.Unknown e = absurd (false≢true e)
+clear-is Fault.Length e = absurd (false≢true e)
+clear-is Fault.OtherSlot e = absurd (false≢true e)
+clear-is Fault.Power e = absurd (false≢true e)
+clear-is Fault.Level e = absurd (false≢true e)
+clear-is Fault.Card e = absurd (false≢true e)
+
+-- a message without a fault met a slot that is ready for it
+record Met (r : Request) (s : Slot) (f : Fault) : Type 0 where
+  met : isClear f ≡ true → ready r s ≡ true
+
+fault-met : (r : Request) (s : Slot) (m : List ℕ) → Met r s (faultOf r s m)
+unfolding faultOf
+fault-met r s m =
+    past (Met r s) _ (record { met = no }) (λ _. past (Met r s) _ (record { met = no }) (λ _. past (Met r s) _ (record { met = no }) (λ _. past (Met r s) _ (record { met = no }) (λ _.
+    either (Met r s) (not (isClear (headerFault r m))) {x = headerFault r m} (λ e. record { met = λ h. absurd (false≢true (sym (not-true _ e) ∙ h)) }) (λ _.
+    either (Met r s) _ (λ _. record { met = no }) (λ e. record { met = λ _. not-false _ e }))))))
+  where
+    no : false ≡ true → ready r s ≡ true
+    no e = absurd (false≢true e)
+
+pub clear-ready : (r : Request) (s : Slot) (m : List ℕ) → isClear (faultOf r s m) ≡ true → ready r s ≡ true
+clear-ready r s m = fault-met r s m .met

@@ -1,0 +1,132 @@
+-- Laws of reads: code bytes blanked in the buffer are code bytes blanked in the image.
+use mathlib.Core.Path.{_≡_, refl, sym, ap, _∙_}
+use mathlib.Core.List.{List, _++_}
+use mathlib.Core.Bool.{Bool, true, false}
+use Prim.Native.Nat.{ℕ, zero, suc, _+_, _-_, _≤_, _<_}
+use native.Mathlib.Decide.{decLe}
+use native.Mathlib.Nat.{lt-of-not-le}
+use native.Mathlib.Numerals.{add-one}
+use native.Mathlib.Omega.{arith}
+use lib.ListN.{length, take, drop, set, replicate, length-set, length-drop, length-replicate, replicate-append-replicate}
+use lib.Seq.{sets, length-sets, length-take-le, set-append-left, take-set-le, take-set-lt, drop-set-lt, drop-set-add}
+use borrow.Author.Tests.{le-leb, lt-leb, lt-ltb, le-ltb}
+use Rattle.words.specs.Bytes.{over}
+use Rattle.words.proofs.Choices.{either, first, rest, taken, passed}
+use Rattle.words.proofs.Lists.{sets-snoc}
+use Rattle.reads.specs.Reads.{visible, bytesRead, counterRead}
+use Rattle.reads.specs.Inner.{blankOne, blanked}
+
+-- ---- one byte
+pub blank-before : (at end k : ℕ) (out : List ℕ) → k < at → blankOne at end k out ≡ out
+unfolding blankOne
+blank-before at end k out h = rest _ _ (lt-leb at k h)
+
+pub blank-behind : (at end k : ℕ) (out : List ℕ) → at ≤ k → end ≤ k → blankOne at end k out ≡ out
+unfolding blankOne
+blank-behind at end k out h e = first _ _ (le-leb at k h) ∙ rest _ _ (le-ltb k end e)
+
+pub blank-here : (at end k : ℕ) (out : List ℕ) → at ≤ k → k < end → blankOne at end k out ≡ set out (k - at) 0
+unfolding blankOne
+blank-here at end k out h e = first _ _ (le-leb at k h) ∙ first _ _ (lt-ltb k end e)
+
+pub length-blankOne : (at end k : ℕ) (out : List ℕ) → length (blankOne at end k out) ≡ length out
+length-blankOne at end k out = go (decLe at k) (decLe end k)
+  where
+    go : Dec (at ≤ k) → Dec (end ≤ k) → length (blankOne at end k out) ≡ length out
+    go (no h) e = ap length (blank-before at end k out (lt-of-not-le h))
+    go (yes h) (yes e) = ap length (blank-behind at end k out h e)
+    go (yes h) (no e) = ap length (blank-here at end k out h (lt-of-not-le e)) ∙ simp length-set
+
+pub length-blanked : (at end code n : ℕ) (out : List ℕ) → length (blanked at end code n out) ≡ length out
+unfolding blanked
+length-blanked at end code zero out = refl
+length-blanked at end code (suc n) out = length-blankOne at end (code + n) (blanked at end code n out) ∙ length-blanked at end code n out
+
+pub blanked-none : (at end code : ℕ) (out : List ℕ) → blanked at end code 0 out ≡ out
+unfolding blanked
+blanked-none at end code out = refl
+
+pub blanked-more : (at end code n : ℕ) (out : List ℕ) → blanked at end code (n + 1) out ≡ blankOne at end (code + n) (blanked at end code n out)
+unfolding blanked
+blanked-more at end code n out = rw (add-one n)
+
+-- ---- the window from `at`, n long, of an image in which byte k is set
+module _ (at n : ℕ) (image out : List ℕ) (fits : at + n ≤ length image) (room : n ≤ length out) where
+  window-long : length (take n (drop at image)) ≡ n
+  window-long = length-take-le n (drop at image) (omega (arith, length-drop at image))
+
+  pub window-out : (k v : ℕ) → (k < at → take n (drop at (set image k v)) ≡ take n (drop at image)) × (at + n ≤ k → take n (drop at (set image k v)) ≡ take n (drop at image))
+  window-out k v = (
+    λ h. ap (take n) (drop-set-lt at image k v h),
+    λ h.
+        let e : at + (k - at) ≡ k = omega arith in
+        ap (λ (m : ℕ). take n (drop at (set image m v))) (sym e) ∙ ap (take n) (drop-set-add at image (k - at) v) ∙ take-set-le n (drop at image) (k - at) v (omega arith),
+  )
+
+  pub window-in : (k v : ℕ) → at ≤ k → k < at + n → over (take n (drop at (set image k v))) out ≡ set (over (take n (drop at image)) out) (k - at) v
+  unfolding over
+  window-in k v h b =
+      let e : at + (k - at) ≡ k = omega arith in
+      let w : take n (drop at (set image k v)) ≡ set (take n (drop at image)) (k - at) v =
+      ap (λ (m : ℕ). take n (drop at (set image m v))) (sym e) ∙ ap (take n) (drop-set-add at image (k - at) v) ∙ take-set-lt n (drop at image) (k - at) v (omega arith) in
+      ap (λ (l : List ℕ). l ++ drop (length l) out) w
+      ∙ ap (λ (m : ℕ). set (take n (drop at image)) (k - at) v ++ drop m out) (length-set (take n (drop at image)) (k - at) v)
+      ∙ sym (set-append-left (take n (drop at image)) (drop (length (take n (drop at image))) out) (k - at) v (omega (arith, window-long)))
+
+  -- one byte blanked in the buffer is that byte set in the image
+  pub blank-window : (k : ℕ) → blankOne at (at + n) k (over (take n (drop at image)) out) ≡ over (take n (drop at (set image k 0))) out
+  blank-window k = go (decLe at k) (decLe (at + n) k)
+    where
+      go : Dec (at ≤ k) → Dec (at + n ≤ k) → blankOne at (at + n) k (over (take n (drop at image)) out) ≡ over (take n (drop at (set image k 0))) out
+      go (no h) e = blank-before at (at + n) k _ (lt-of-not-le h) ∙ ap (λ (l : List ℕ). over l out) (sym (window-out k 0 .0 (lt-of-not-le h)))
+      go (yes h) (yes e) = blank-behind at (at + n) k _ h e ∙ ap (λ (l : List ℕ). over l out) (sym (window-out k 0 .1 e))
+      go (yes h) (no e) = blank-here at (at + n) k _ h (lt-of-not-le e) ∙ sym (window-in k 0 h (lt-of-not-le e))
+
+-- zeros stored, one more
+sets-zeros : (image : List ℕ) (code n : ℕ) → sets image code (replicate (suc n) 0) ≡ set (sets image code (replicate n 0)) (code + n) 0
+sets-zeros image code n =
+    ap (sets image code) (ap (λ (m : ℕ). replicate m 0) (sym (add-one n)) ∙ sym (replicate-append-replicate n 1 0))
+    ∙ sets-snoc image code (replicate n 0) 0
+    ∙ ap (λ (m : ℕ). set (sets image code (replicate n 0)) (code + m) 0) (length-replicate n 0)
+
+-- the code blanked in the buffer is the code blanked in the image
+blank-code : (at n code digits : ℕ) (image out : List ℕ) → at + n ≤ length image → n ≤ length out
+    → blanked at (at + n) code digits (over (take n (drop at image)) out) ≡ over (take n (drop at (sets image code (replicate digits 0)))) out
+unfolding blanked
+blank-code at n code zero image out h r = refl
+blank-code at n code (suc d) image out h r =
+    ap (blankOne at (at + n) (code + d)) (blank-code at n code d image out h r)
+    ∙ blank-window at n (sets image code (replicate d 0)) out (omega (arith, length-sets image code (replicate d 0))) r (code + d)
+    ∙ ap (λ (l : List ℕ). over (take n (drop at l)) out) (sym (sets-zeros image code d))
+
+-- ---- what is read
+-- an open card shows its bytes
+pub read-open : (code digits : ℕ) {o : Bool} (image : List ℕ) (at n : ℕ) → o ≡ true → take n (drop at image) ≡ bytesRead code digits o image at n
+unfolding bytesRead visible
+read-open code digits image at n e = ap (λ (l : List ℕ). take n (drop at l)) (taken _ e)
+
+-- so does a card that has no code
+pub read-codeless : (code : ℕ) {digits : ℕ} (o : Bool) (image : List ℕ) (at n : ℕ) → digits ≡ 0 → take n (drop at image) ≡ bytesRead code digits o image at n
+unfolding bytesRead visible
+read-codeless code o image at n e =
+    ap (λ (l : List ℕ). take n (drop at l)) (either (λ (l : List ℕ). image ≡ l) o (λ _. refl) (λ _. ap (λ (m : ℕ). sets image code (replicate m 0)) (sym e)))
+
+-- a closed one shows its bytes with the code blanked
+pub read-closed : (code digits : ℕ) {o : Bool} (image out : List ℕ) (at n : ℕ) → o ≡ false → at + n ≤ length image → n ≤ length out
+    → blanked at (at + n) code digits (over (take n (drop at image)) out) ≡ over (bytesRead code digits o image at n) out
+unfolding bytesRead visible
+read-closed code digits image out at n e h r =
+    blank-code at n code digits image out h r ∙ ap (λ (l : List ℕ). over (take n (drop at l)) out) (passed _ e refl)
+
+-- ---- how long what is read is
+pub length-bytesRead : (code digits : ℕ) (o : Bool) (image : List ℕ) (at n : ℕ) → at + n ≤ length image → length (bytesRead code digits o image at n) ≡ n
+unfolding bytesRead visible
+length-bytesRead code digits o image at n h =
+    either (λ (im : List ℕ). length (take n (drop at im)) ≡ n) o
+    (λ _. length-take-le n (drop at image) (omega (arith, length-drop at image)))
+    (λ _. let z : List ℕ = sets image code (replicate digits 0) in
+    length-take-le n (drop at z) (omega (arith, length-drop at z, length-sets image code (replicate digits 0))))
+
+pub length-counterRead : (counter : ℕ) (image : List ℕ) (n : ℕ) → 1 ≤ n → length (counterRead counter image n) ≡ n
+unfolding counterRead
+length-counterRead counter image n h = omega (arith, length-replicate {A = ℕ} (n - 1) 0)

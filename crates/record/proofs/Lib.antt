@@ -1,0 +1,2 @@
+pub mod RawLaws
+pub mod Records

@@ -1,0 +1,70 @@
+-- `read_with` meets its contract: its tests are the rule's, in their order.
+use borrow.Author.Needs.{needs}
+use mathlib.Core.Path.{sym, ap, _∙_}
+use mathlib.Core.Bool.{not}
+use borrow.Author.Tests.{eq-eqb, ne-eqb, lt-ltb, le-ltb}
+use Rattle.words.proofs.Choices.{taken, passed}
+use Rattle.record.specs.declared.Reading.{Reading}
+use Rattle.record.specs.Raw.{slotWith}
+use Rattle.record.proofs.read_with.Statement.{statement}
+use Rattle.record.proofs.read_with.Tie as tie
+
+returns : tie.Need-returns
+unfolding slotWith
+returns c = taken _ (ap not (ne-eqb _ 32 (c .if1 .taken)))
+
+shared-slice-read-active : tie.Need-shared-slice-read-active
+shared-slice-read-active c = search needs
+
+returns-2 : tie.Need-returns-2
+unfolding slotWith
+returns-2 c = (passed _ (ap not (eq-eqb _ 32 (c .before .before .if1 .left))) (taken _ (lt-ltb 1 _ (c .if2 .taken))))
+
+shared-slice-read-open : tie.Need-shared-slice-read-open
+shared-slice-read-open c = search needs
+
+returns-3 : tie.Need-returns-3
+unfolding slotWith
+returns-3 c = (passed _ (ap not (eq-eqb _ 32 (c .before .before .before .before .if1 .left))) (passed _ (le-ltb 1 _ (c .before .before .if2 .left)) (taken _ (lt-ltb 1 _ (c .if3 .taken)))))
+
+is-blank-requires : tie.Need-is-blank-requires
+is-blank-requires c κs = search needs
+
+returns-4 : tie.Need-returns-4
+unfolding slotWith
+returns-4 c = (passed _ (ap not (eq-eqb _ 32 (c .before .before .before .before .before .before .if1 .left))) (passed _ (le-ltb 1 _ (c .before .before .before .before .if2 .left)) (passed _ (le-ltb 1 _ (c .before .before .if3 .left)) (taken _ (ap not (sym (c .before .is-blank .ensures)) ∙ c .if4 .taken)))))
+
+shared-slice-read-of : tie.Need-shared-slice-read-of
+shared-slice-read-of c = search needs
+
+shared-slice-read-of-2 : tie.Need-shared-slice-read-of-2
+shared-slice-read-of-2 c = search needs
+
+of-requires : tie.Need-of-requires
+of-requires c κs = search needs
+
+returns-5 : tie.Need-returns-5
+unfolding slotWith
+returns-5 c =
+    let on = c .before .before .before in
+    passed _ (ap not (eq-eqb _ 32 (on .before .before .before .before .before .before .if1 .left)))
+    (passed _ (le-ltb 1 _ (on .before .before .before .before .if2 .left))
+    (passed _ (le-ltb 1 _ (on .before .before .if3 .left))
+    (passed _ (ap not (sym (on .before .is-blank .ensures)) ∙ on .if4 .left)
+    (ap Reading.Found (c .of .ensures)))))
+
+pub read-with-spec : {M : Type 1} → statement M
+read-with-spec =
+    tie.close
+    (tie.spec
+    returns
+    shared-slice-read-active
+    returns-2
+    shared-slice-read-open
+    returns-3
+    is-blank-requires
+    returns-4
+    shared-slice-read-of
+    shared-slice-read-of-2
+    of-requires
+    returns-5)

@@ -1,0 +1,96 @@
+-- Laws of a sound slot: the five conditions taken apart, and that each change of the record keeps them.
+use mathlib.Core.Path.{_≡_, refl, sym, ap, _∙_}
+use mathlib.Core.List.{List}
+use mathlib.Core.Bool.{true, false, not, true≢false, false≢true}
+use mathlib.Core.Logic.{_⊎_, inl, inr}
+use Prim.Native.Nat.{ℕ}
+use borrow.Author.Tests.{eqb-true, eq-eqb, not-true}
+use Rattle.words.specs.Choice.{_and_, _or_, _means_, _is_}
+use Rattle.words.proofs.Choices.{and-true, or-true, means-true, both, or-left, or-right, meaning}
+use Rattle.chips.specs.declared.Chip.{Chip}
+use Rattle.slot.specs.declared.Slot.{Slot}
+use Rattle.slot.specs.Slots.{occupied, ownType, inserted, removed, powered, selecting, paged, opened, closed}
+use Rattle.sound.specs.Sound.{fullCode, pageSize, emptySound, idleSound, typeSound, openSound, sound}
+
+-- "It is sound when", as facts
+pub record Sound (s : Slot) (image : List ℕ) : Type 0 where
+  pub sized : pageSize (s .page) ≡ true
+  pub empty : occupied (s .holds) ≡ false → (s .active ≡ false) × (s .page ≡ 8)
+  pub idle : s .active ≡ false → (s .selected ≡ 0) × (s .«open» ≡ false)
+  pub own : (s .selected ≡ 0) ⊎ (s .selected ≡ ownType (s .holds))
+  pub sure : s .«open» ≡ true → (fullCode (s .holds) image ≡ true) × (s .selected ≡ ownType (s .holds))
+
+module _ (s : Slot) (image : List ℕ) where
+  own-parts : (s .selected is 0 ≡ true) ⊎ (s .selected is ownType (s .holds) ≡ true) → (s .selected ≡ 0) ⊎ (s .selected ≡ ownType (s .holds))
+  own-parts (inl e) = inl (eqb-true _ _ e)
+  own-parts (inr e) = inr (eqb-true _ _ e)
+
+  own-whole : (s .selected ≡ 0) ⊎ (s .selected ≡ ownType (s .holds)) → s .selected is 0 or s .selected is ownType (s .holds) ≡ true
+  own-whole (inl e) = or-left _ (eq-eqb _ _ e)
+  own-whole (inr e) = or-right _ (eq-eqb _ _ e)
+
+  pub sound-parts : sound s image ≡ true → Sound s image
+  unfolding sound emptySound idleSound typeSound openSound
+  sound-parts e =
+      let t1 = and-true _ _ e in
+      let t2 = and-true _ _ (t1 .1) in
+      let t3 = and-true _ _ (t2 .1) in
+      let t4 = and-true _ _ (t3 .1) in
+      record {
+        sized = t1 .0;
+        empty = λ h. let u = and-true _ _ (means-true _ _ (t2 .0) (ap not h)) in (not-true _ (u .0), eqb-true _ _ (u .1));
+        idle = λ h. let u = and-true _ _ (means-true _ _ (t3 .0) (ap not h)) in (eqb-true _ _ (u .0), not-true _ (u .1));
+        own = own-parts (or-true _ _ (t4 .0));
+        sure = λ h. let u = and-true _ _ (means-true _ _ (t4 .1) h) in (u .0, eqb-true _ _ (u .1));
+      }
+
+  pub sound-whole : Sound s image → sound s image ≡ true
+  unfolding sound emptySound idleSound typeSound openSound
+  sound-whole r =
+      both (r .sized)
+      (both (meaning _ (λ h. let u = r .empty (not-true _ h) in both (ap not (u .0)) (eq-eqb _ _ (u .1))))
+      (both (meaning _ (λ h. let u = r .idle (not-true _ h) in both (eq-eqb _ _ (u .0)) (ap not (u .1))))
+      (both (own-whole (r .own))
+      (meaning _ (λ h. let u = r .sure h in both (u .0) (eq-eqb _ _ (u .1)))))))
+
+  -- ---- the changes
+  pub image-sound : (image′ : List ℕ) → fullCode (s .holds) image′ ≡ fullCode (s .holds) image → Sound s image → Sound s image′
+  image-sound image′ e r = record { sized = r .sized; empty = r .empty; idle = r .idle; own = r .own; sure = λ h. (e ∙ r .sure h .0, r .sure h .1) }
+
+  pub on-sound : occupied (s .holds) ≡ true → Sound s image → Sound (powered true s) image
+  on-sound e r = record {
+    sized = r .sized;
+    empty = λ h. absurd (true≢false (sym e ∙ h));
+    idle = λ h. absurd (true≢false h);
+    own = inl refl;
+    sure = λ h. absurd (false≢true h);
+  }
+
+  pub off-sound : Sound s image → Sound (powered false s) image
+  off-sound r = record { sized = r .sized; empty = λ h. (refl, r .empty h .1); idle = λ h. (refl, refl); own = inl refl; sure = λ h. absurd (false≢true h) }
+
+  module _ (on : s .active ≡ true) (image′ : List ℕ) (r : Sound s image) where
+    awake : {A : Type 0} → s .active ≡ false → A
+    awake h = absurd (true≢false (sym on ∙ h))
+
+    pub selecting-sound : Sound (selecting (ownType (s .holds)) s) image′
+    selecting-sound = record { sized = r .sized; empty = r .empty; idle = awake; own = inr refl; sure = λ h. absurd (false≢true h) }
+
+    pub closed-sound : Sound (closed s) image′
+    closed-sound = record { sized = r .sized; empty = r .empty; idle = awake; own = r .own; sure = λ h. absurd (false≢true h) }
+
+    pub opened-sound : fullCode (s .holds) image′ ≡ true → s .selected ≡ ownType (s .holds) → Sound (opened s) image′
+    opened-sound e t = record { sized = r .sized; empty = r .empty; idle = awake; own = inr t; sure = λ h. (e, t) }
+
+  pub paged-sound : (p : ℕ) → pageSize p ≡ true → occupied (s .holds) ≡ true → Sound s image → Sound (paged p s) image
+  paged-sound p e h r = record { sized = e; empty = λ k. absurd (true≢false (sym h ∙ k)); idle = r .idle; own = r .own; sure = r .sure }
+
+-- a card just put in, and a slot with none, are sound beside every image
+module _ (image : List ℕ) where
+  pub inserted-sound : (chip : Chip) → sound (inserted chip) image ≡ true
+  unfolding sound emptySound idleSound typeSound openSound pageSize _and_ _or_ _means_
+  inserted-sound chip = refl
+
+  pub removed-sound : sound removed image ≡ true
+  unfolding sound emptySound idleSound typeSound openSound pageSize _and_ _or_ _means_
+  removed-sound = refl

@@ -1,0 +1,26 @@
+-- `empty_sound` meets its contract: its tests are the rule's.
+use borrow.Author.Needs.{needs}
+use mathlib.Core.Path.{refl, sym, ap, _∙_}
+use mathlib.Core.Bool.{not}
+use Rattle.words.proofs.Choices.{and-fails, and-holds, means-off, means-on, taken}
+use Rattle.sound.specs.Sound.{emptySound}
+use Rattle.sound.proofs.empty_sound.Statement.{statement}
+use Rattle.sound.proofs.empty_sound.Tie as tie
+
+has-card-requires : tie.Need-has-card-requires
+has-card-requires c κs = search needs
+
+returns : tie.Need-returns
+unfolding emptySound
+returns c = means-off _ (ap not (sym (c .before .has-card .ensures) ∙ c .if1 .taken))
+
+returns-2 : tie.Need-returns-2
+unfolding emptySound
+returns-2 c = means-on (ap not (sym (c .before .before .has-card .ensures) ∙ c .before .if1 .left)) (and-fails _ (ap not (c .if2 .taken)))
+
+returns-3 : tie.Need-returns-3
+unfolding emptySound
+returns-3 c = means-on (ap not (sym (c .before .before .before .has-card .ensures) ∙ c .before .before .if1 .left)) (and-holds (ap not (c .before .if2 .left)) refl)
+
+pub empty-sound-spec : {M : Type 1} → statement M
+empty-sound-spec = tie.close (tie.spec has-card-requires returns returns-2 returns-3)

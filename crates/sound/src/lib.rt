@@ -1,0 +1,115 @@
+// When a slot record is sound beside an image, and whether the image is one of its card. No function has a `requires`: any record, however
+// made, beside any image has its answer. The rules are written in specs/Sound.antt.
+
+use slot::Holds;
+use slot::Slot;
+use words::byte_at;
+ghost use mathlib.Core.Path.{_≡_};
+ghost use Rattle.sound.specs.Sound.{fullCode, imageIsCard, pageSize, emptySound, idleSound, typeSound, openSound, sound};
+
+// Whether the card is a code card with a full counter.
+fn full_code(slot: Slot, image: &[u8]) -> bool
+    ensures { λ r. ⌜ r ≡ fullCode (slot .holds) (now (image .entry)) ⌝ }
+{
+    let holds = slot.holds;
+    let Holds::Card(chip) = holds else {
+        return false;
+    };
+    if !chip.facts().coded {
+        return false;
+    }
+    byte_at(image, chip.facts().counter) == chip.facts().full
+}
+
+// Whether the image is one of the card that is in; with none it is not looked at.
+pub fn fits(slot: Slot, image: &[u8]) -> bool
+    ensures { λ r. ⌜ r ≡ imageIsCard (slot .holds) (now (image .entry)) ⌝ }
+{
+    let holds = slot.holds;
+    let Holds::Card(chip) = holds else {
+        return true;
+    };
+    card::is_card(chip, image)
+}
+
+// No card means inactive and page 8.
+fn empty_sound(slot: Slot) -> bool
+    ensures { λ r. ⌜ r ≡ emptySound slot ⌝ }
+{
+    if slot.has_card() {
+        return true;
+    }
+    if slot.active {
+        return false;
+    }
+    slot.page == 8
+}
+
+// Inactive means no type and closed.
+fn idle_sound(slot: Slot) -> bool
+    ensures { λ r. ⌜ r ≡ idleSound slot ⌝ }
+{
+    if slot.active {
+        return true;
+    }
+    if slot.selected != 0 {
+        return false;
+    }
+    !slot.open
+}
+
+// A selected type is the kind's own.
+fn type_sound(slot: Slot) -> bool
+    ensures { λ r. ⌜ r ≡ typeSound slot ⌝ }
+{
+    if slot.selected == 0 {
+        return true;
+    }
+    slot.selected == slot.own_type()
+}
+
+// Open means a code card with its type selected and a full counter.
+fn open_sound(slot: Slot, image: &[u8]) -> bool
+    ensures { λ r. ⌜ r ≡ openSound slot (now (image .entry)) ⌝ }
+{
+    if !slot.open {
+        return true;
+    }
+    if !full_code(slot, image) {
+        return false;
+    }
+    slot.selected == slot.own_type()
+}
+
+// Whether the record is sound, beside the image of its card.
+pub fn is_sound(slot: Slot, image: &[u8]) -> bool
+    ensures { λ r. ⌜ r ≡ sound slot (now (image .entry)) ⌝ }
+{
+    if !page_size(slot.page) {
+        return false;
+    }
+    if !empty_sound(slot) {
+        return false;
+    }
+    if !idle_sound(slot) {
+        return false;
+    }
+    if !type_sound(slot) {
+        return false;
+    }
+    open_sound(slot, image)
+}
+
+// Whether a number is a reader page.
+fn page_size(page: u8) -> bool
+    ensures { λ r. ⌜ r ≡ pageSize page ⌝ }
+{
+    match page {
+        8 => true,
+        16 => true,
+        32 => true,
+        64 => true,
+        128 => true,
+        0..=7 | 9..=15 | 17..=31 | 33..=63 | 65..=127 | 129..=255 => false,
+    }
+}

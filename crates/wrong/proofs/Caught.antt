@@ -1,0 +1,103 @@
+-- Every wrong reader of the table is caught at its input, which is computed; and no code is a wrong reader that is caught, as outcomes that are
+-- not alike are not met by one reply, image and answer buffer.
+use Prim.Native.Nat.{ℕ, _+_}
+use mathlib.Core.Path.{_≡_, refl, sym, ap, _∙_, subst}
+use mathlib.Core.Bool.{Bool, true, false, Bool·beq}
+use mathlib.Core.List.{List, [], _∷_}
+use native.Mathlib.Omega.{arith}
+use lib.ListN.{length, take, drop}
+use lib.Seq.{drop-append-seam}
+use borrow.Author.Tests.{eq-eqb, not-true}
+use Rattle.words.specs.Choice.{_⇒_⁏_}
+use Rattle.words.specs.Bytes.{same, over}
+use Rattle.words.proofs.Choices.{both, no-test}
+use Rattle.words.proofs.Lists.{front-over, same-self}
+use Rattle.slot.specs.declared.Slot.{Slot}
+use Rattle.record.specs.Raw.{kindOf}
+use Rattle.frame.specs.declared.Reply.{Reply}
+use Rattle.frame.specs.Exchange.{Outcome, Gives}
+use Rattle.reader.specs.Rules.{rules}
+use Rattle.wrong.specs.Wrong.{parts}
+use Rattle.wrong.specs.Caught.{likeSlot, likeOutcome, likeOutcomes, Witness, byMessage, byRun, byInsertion, byRemoval, caught, uncaught, tests, Apart, Call, GivesEach, Refuted, EachRefuted}
+use Rattle.wrong.specs.Witnesses.{wrongReaders, witnesses}
+
+-- ---- what is equal is alike
+same-of : {a b : List ℕ} → a ≡ b → same a b ≡ true
+same-of {a} e = subst (λ (l : List ℕ). same a l ≡ true) e (same-self a)
+
+beq-self : (b : Bool) → Bool·beq b b ≡ true
+beq-self true = refl
+beq-self false = refl
+
+slot-self : (s : Slot) → likeSlot s s ≡ true
+unfolding likeSlot
+slot-self s =
+    both (eq-eqb (kindOf (s .holds)) _ refl)
+    (both (beq-self (s .active)) (both (eq-eqb (s .selected) _ refl) (both (eq-eqb (s .page) _ refl) (beq-self (s .«open»)))))
+
+pub like-slot : {s t : Slot} → s ≡ t → likeSlot s t ≡ true
+like-slot {s} e = subst (λ (t : Slot). likeSlot s t ≡ true) e (slot-self s)
+
+pub like-parts : (o p : Outcome) → o .number ≡ p .number → o .answer ≡ p .answer → o .slot ≡ p .slot → o .image ≡ p .image → likeOutcome o p ≡ true
+unfolding likeOutcome
+like-parts o p n a s i = both (eq-eqb _ _ n) (both (same-of a) (both (like-slot s) (same-of i)))
+
+-- ---- one reply, image and buffer meet one outcome
+-- the answer is read back from the buffer: it is the front, as long as the reply says
+answer-met : (a b was : List ℕ) → length a ≡ length b → over a was ≡ over b was → a ≡ b
+answer-met a b was n e = sym (front-over a was) ∙ ap (λ (k : ℕ). take k (over a was)) n ∙ ap (take (length b)) e ∙ front-over b was
+
+met-alike : (o p : Outcome) (r : Reply) (left was holds : List ℕ) → Gives o r left was holds → Gives p r left was holds → likeOutcome o p ≡ true
+met-alike o p r left was holds g h =
+    like-parts o p (sym (g .number) ∙ h .number) (answer-met (o .answer) (p .answer) was (sym (g .len) ∙ h .len) (sym (g .buffer) ∙ h .buffer))
+    (sym (g .slot) ∙ h .slot) (sym (g .image) ∙ h .image)
+
+pub no-code : (o p : Outcome) → likeOutcome o p ≡ false → Apart o p
+no-code o p e r left was holds g h = no-test (met-alike o p r left was holds g h) e
+
+met-each : (os ps : List Outcome) (cs : List Call) → GivesEach os cs → GivesEach ps cs → likeOutcomes os ps ≡ true
+unfolding likeOutcomes
+met-each [] [] cs g h = refl
+met-each [] (p ∷ ps) [] g h = absurd h
+met-each [] (p ∷ ps) (c ∷ cs) g h = absurd g
+met-each (o ∷ os) [] [] g h = absurd g
+met-each (o ∷ os) [] (c ∷ cs) g h = absurd h
+met-each (o ∷ os) (p ∷ ps) [] g h = absurd g
+met-each (o ∷ os) (p ∷ ps) (c ∷ cs) g h = both (met-alike o p (c .reply) (c .left) (c .was) (c .holds) (g .0) (h .0)) (met-each os ps cs (g .1) (h .1))
+
+-- ---- a reader that is caught is no code that meets the contract
+pub refuted : (w : Witness) → caught w ≡ true → Refuted w
+unfolding caught
+refuted (byMessage w s image m room) e = no-code _ _ (not-true _ e)
+refuted (byRun w s image ms) e = λ cs g h. no-test (met-each _ _ cs g h) (not-true _ e)
+refuted (byInsertion w s kind image) e = no-code _ _ (not-true _ e)
+refuted (byRemoval w s) e = λ r p q. no-test (like-slot (sym p ∙ q)) (not-true _ e)
+
+-- where no row is uncaught, every row is refuted
+none-left : (k : ℕ) (b : Bool) (later : ℕ) → (b ⇒ later ⁏ k + 1) ≡ 0 → (b ≡ true) × (later ≡ 0)
+unfolding _⇒_⁏_
+none-left k true later e = (refl, e)
+none-left k false later e = absurd (omega arith)
+
+pub each-refuted : (k : ℕ) (ws : List Witness) → uncaught (k + 1) ws ≡ 0 → EachRefuted ws
+unfolding uncaught
+each-refuted k [] e = tt
+each-refuted k (w ∷ ws) e = let t = none-left k (caught w) (uncaught (k + 1 + 1) ws) e in (refuted w (t .0), each-refuted (k + 1) ws (t .1))
+
+-- "Bytes past the answer keep their values": no outcome names them, and the contract holds them for every outcome
+pub past-kept : (o : Outcome) (r : Reply) (left was holds : List ℕ) → Gives o r left was holds → drop (length (o .answer)) holds ≡ drop (length (o .answer)) was
+unfolding over
+past-kept o r left was holds g = ap (drop (length (o .answer))) (g .buffer) ∙ drop-append-seam (o .answer) (drop (length (o .answer)) was)
+
+-- ---- the table
+pub all-caught : uncaught 1 wrongReaders ≡ 0
+unfolding rules parts tests witnesses
+all-caught = refl
+
+-- "With one result only": no code which meets the contract is one of them
+pub all-refuted : EachRefuted wrongReaders
+all-refuted = each-refuted 0 wrongReaders all-caught
+
+pub row-count : length wrongReaders ≡ 1341
+unfolding rules wrongReaders
+row-count = refl

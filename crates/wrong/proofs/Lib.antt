@@ -1,0 +1,3 @@
+pub mod Caught
+pub mod Parts
+pub mod CaughtPrinters

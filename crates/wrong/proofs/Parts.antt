@@ -1,0 +1,191 @@
+-- Our reader with a part replaced (specs/Wrong) is our reader where the part put in is the rules' own. So a wrong reader that is made this way is
+-- wrong by the part that its definition names, and by nothing else.
+use Prim.Native.Nat.{ℕ}
+use mathlib.Core.Path.{_≡_, refl, sym, ap, _∙_, subst⁻¹}
+use mathlib.Core.Bool.{Bool, true, false, true≢false}
+use mathlib.Core.List.{List, [], _∷_}
+use borrow.Author.Tests.{not-true}
+use Rattle.words.specs.Choice.{_⇒_⁏_, _and_, _is_}
+use Rattle.words.proofs.Choices.{either, past, rest, and-true}
+use Rattle.chips.specs.declared.Chip.{Chip}
+use Rattle.chips.specs.declared.Known.{Known}
+use Rattle.chips.specs.declared.Known.the-variants.{Is, Unknown}
+use Rattle.chips.specs.declared.Facts.{Facts}
+use Rattle.chips.specs.Kinds.{facts, chipOf}
+use Rattle.slot.specs.declared.Holds.{Holds}
+use Rattle.slot.specs.declared.Holds.the-variants.{Empty, Card}
+use Rattle.slot.specs.declared.Slot.{Slot}
+use Rattle.slot.specs.Slots.{inserted}
+use Rattle.card.specs.Images.{isCard}
+use Rattle.steps.specs.declared.Status.{Status}
+use Rattle.steps.specs.declared.Order.{Order}
+use Rattle.steps.specs.Steps.{body, order}
+use Rattle.sound.specs.Sound.{imageIsCard, sound}
+use Rattle.faults.specs.declared.Fault.{Fault}
+use Rattle.faults.specs.Faults.{Transfer, typeByte, apdu, requestOf, faultOf}
+use Rattle.orders.specs.Orders.{Deed, performed, commanded}
+use Rattle.frame.specs.declared.Refusal.{Refusal}
+use Rattle.frame.specs.Exchange.{served, Outcome, turnedDown, answered, replied, reply, exchange, insertedAs, insertion}
+use Rattle.reader.specs.Runs.{Sent, sending, run}
+use Rattle.promise.specs.Sequences.{sentWith}
+use Rattle.promise.proofs.Reached.{transfers-is, transfer-does}
+use Rattle.wrong.specs.Wrong.{Reader, oneByOne, cardIn, taking, vetting, faulting, upon, commandingOn, commanding, ordering, sooner, letting, barring, doing, atWrong, atRight, insertsAs, insertsBy, uponInsert}
+
+-- a reader gives what ours gives, at every input
+abbrev pub Ours : Reader → Type 0
+Ours read = (s : Slot) (image m : List ℕ) (room : ℕ) → read s image m room ≡ exchange s image m room
+
+-- a choice between equal things
+same-choice : {A : Type 0} (b : Bool) {x y : A} → x ≡ y → (b ⇒ x ⁏ y) ≡ y
+unfolding _⇒_⁏_
+same-choice true e = e
+same-choice false e = refl
+
+pub upon-ours : (type : ℕ) → Ours (upon type (λ s image o. o))
+unfolding upon
+upon-ours type s image m room = same-choice _ refl
+
+-- ---- tests 1 to 4
+-- what comes of a message, by the test that turns it down
+data Tested (s : Slot) (image m : List ℕ) : Outcome → Type 0 where
+  buffer : Tested s image m (turnedDown Refusal.Buffer s image)
+  message : Tested s image m (turnedDown Refusal.Message s image)
+  image : imageIsCard (s .holds) image ≡ false → Tested s image m (turnedDown Refusal.Image s image)
+  record′ : sound s image ≡ false → Tested s image m (turnedDown Refusal.Record s image)
+  passed : Tested s image m (reply (requestOf (typeByte m)) s image m)
+
+tested : (s : Slot) (image m : List ℕ) (room : ℕ) → Tested s image m (exchange s image m room)
+unfolding exchange served
+tested s i m room =
+    past (Tested s i m) _ buffer (λ _.
+    past (Tested s i m) _ message (λ _.
+    either (Tested s i m) _ (λ e. image (not-true _ e)) (λ _.
+    either (Tested s i m) _ (λ e. record′ (not-true _ e)) (λ _. passed))))
+
+pub faulting-ours : Ours (faulting faultOf)
+unfolding faulting reply replied _⇒_⁏_
+faulting-ours s i m room = go (tested s i m room)
+  where
+    go : {o : Outcome} → Tested s i m o → (o .number is 0 ⇒ reply (requestOf (typeByte m)) s i m ⁏ o) ≡ o
+    go buffer = refl
+    go message = refl
+    go (image e) = refl
+    go (record′ e) = refl
+    go passed = refl
+
+pub vetting-ours : Ours (vetting sound)
+unfolding vetting reply replied _and_ _⇒_⁏_
+vetting-ours s i m room = go (tested s i m room)
+  where
+    go : {o : Outcome} → Tested s i m o → (o .number is 4 and sound s i ⇒ reply (requestOf (typeByte m)) s i m ⁏ o) ≡ o
+    go buffer = refl
+    go message = refl
+    go (image e) = refl
+    go (record′ e) = rest _ _ e
+    go passed = refl
+
+-- an image that is none of the card in the slot
+no-card : (h : Holds) (i : List ℕ) → imageIsCard h i ≡ false → isCard (cardIn h) i ≡ false
+no-card Empty i e = absurd (true≢false e)
+no-card (Card chip) i e = e
+
+pub taking-ours : Ours (taking isCard)
+unfolding taking reply replied _and_ _⇒_⁏_
+taking-ours s i m room = go (tested s i m room)
+  where
+    go : {o : Outcome} → Tested s i m o
+        → (o .number is 3 and isCard (cardIn (s .holds)) i ⇒ (sound s i ⇒ reply (requestOf (typeByte m)) s i m ⁏ turnedDown Refusal.Record s i) ⁏ o) ≡ o
+    go buffer = refl
+    go message = refl
+    go (image e) = rest _ _ (no-card (s .holds) i e)
+    go (record′ e) = refl
+    go passed = refl
+
+-- ---- commands
+-- a reader whose commands do what the rules say is ours
+commanding-on : (h : Holds) (does : Facts → Slot → List ℕ → List ℕ → Deed) (s : Slot) (i m : List ℕ) (room : ℕ) → s .holds ≡ h
+    → ((f : Facts) (d : List ℕ) → does f s i d ≡ commanded f s i d) → commandingOn h does s i m room ≡ exchange s i m room
+unfolding commandingOn commanded
+commanding-on Empty does s i m room h e = refl
+commanding-on (Card chip) does s i m room h e =
+    either (λ (o : Outcome). o ≡ exchange s i m room) _
+    (λ c.
+    let t = and-true _ _ c in
+    ap (answered Transfer m Fault.Clear) (e (facts chip) (apdu m)) ∙ sym (transfer-does chip s i (sentWith m room) h (t .0) (transfers-is _ (t .1))))
+    (λ _. refl)
+
+pub commanding-ours : (does : Facts → Slot → List ℕ → List ℕ → Deed)
+    → ((f : Facts) (s : Slot) (i d : List ℕ) → does f s i d ≡ commanded f s i d) → Ours (commanding does)
+commanding-ours does e s i m room = commanding-on (s .holds) does s i m room refl (λ f d. e f s i d)
+
+pub ordering-ours : (orders : Facts → Slot → List ℕ → List ℕ → Order)
+    → ((f : Facts) (s : Slot) (i d : List ℕ) → orders f s i d ≡ order f s i d) → Ours (ordering orders)
+unfolding commanded
+ordering-ours orders e = commanding-ours _ (λ f s i d. ap (performed f s i (body d)) (e f s i d))
+
+pub doing-ours : (ins : ℕ) → Ours (doing ins (λ f s i d e. e))
+unfolding doing
+doing-ours ins = commanding-ours _ (λ f s i d. same-choice _ refl)
+
+pub at-wrong-ours : Ours (atWrong (λ f s i d e. e))
+unfolding atWrong doing
+at-wrong-ours = commanding-ours _ (λ f s i d. same-choice _ (same-choice _ refl))
+
+pub at-right-ours : Ours (atRight (λ f s i d e. e))
+unfolding atRight doing
+at-right-ours = commanding-ours _ (λ f s i d. same-choice _ (same-choice _ refl))
+
+-- where its test holds nowhere, nothing comes sooner, nothing more is let through and nothing more is barred
+never : {A : Type 0} (a : Bool) (x y : A) → (a and false ⇒ x ⁏ y) ≡ y
+unfolding _and_ _⇒_⁏_
+never true x y = refl
+never false x y = refl
+
+pub sooner-ours : (earlier later : Status) → Ours (sooner earlier (λ f s i d. false) later)
+unfolding sooner
+sooner-ours earlier later = ordering-ours _ (λ f s i d. never _ _ _)
+
+pub letting-ours : (status : Status) → Ours (letting status (λ f s i d. false))
+unfolding letting
+letting-ours status = ordering-ours _ (λ f s i d. never _ _ _)
+
+pub barring-ours : (status : Status) → Ours (barring status (λ f s i d. false))
+unfolding barring
+barring-ours status = ordering-ours _ (λ f s i d. never _ _ _)
+
+-- ---- insertion
+-- what comes of an insertion of a known kind, by the test that turns it down
+data Put (chip : Chip) (s : Slot) (image : List ℕ) : Outcome → Type 0 where
+  occupied : Put chip s image (turnedDown Refusal.Occupied s image)
+  other : isCard (facts chip) image ≡ false → Put chip s image (turnedDown Refusal.Image s image)
+  taken : Put chip s image (record { number = 0; answer = []; slot = inserted chip; image = image })
+
+put : (chip : Chip) (s : Slot) (kind : ℕ) (i : List ℕ) → chipOf kind ≡ Is chip → Put chip s i (insertion s kind i)
+unfolding insertion insertedAs
+put chip s kind i e =
+    past (Put chip s i) _ occupied (λ _.
+    subst⁻¹ (λ (k : Known). Put chip s i (insertedAs k s i)) e (either (Put chip s i) _ (λ _. taken) (λ h. other h)))
+
+inserts-as : (k : Known) (s : Slot) (kind : ℕ) (i : List ℕ) → chipOf kind ≡ k → insertsAs k isCard s kind i ≡ insertion s kind i
+unfolding insertsAs _and_ _⇒_⁏_
+inserts-as Unknown s kind i e = refl
+inserts-as (Is chip) s kind i e = go (put chip s kind i e)
+  where
+    go : {o : Outcome} → Put chip s i o
+        → (o .number is 3 and isCard (facts chip) i ⇒ record { number = 0; answer = []; slot = inserted chip; image = i } ⁏ o) ≡ o
+    go occupied = refl
+    go (other h) = rest _ _ h
+    go taken = refl
+
+pub inserts-ours : (s : Slot) (kind : ℕ) (i : List ℕ) → insertsBy isCard s kind i ≡ insertion s kind i
+inserts-ours s kind i = inserts-as (chipOf kind) s kind i refl
+
+pub upon-insert-ours : (s : Slot) (kind : ℕ) (i : List ℕ) → uponInsert (λ f s o. o) s kind i ≡ insertion s kind i
+unfolding uponInsert
+upon-insert-ours s kind i = same-choice _ refl
+
+-- ---- runs
+pub one-by-one-ours : (s : Slot) (i : List ℕ) (ms : List Sent) → oneByOne exchange s i ms ≡ run s i ms .outcomes
+unfolding oneByOne run
+one-by-one-ours s i [] = refl
+one-by-one-ours s i (m ∷ ms) = ap (λ (os : List Outcome). sending s i m ∷ os) (one-by-one-ours (sending s i m .slot) (sending s i m .image) ms)

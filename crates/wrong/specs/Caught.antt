@@ -1,0 +1,90 @@
+-- When a wrong reader is caught: it gives something else than the rules at an input. Then no code is that reader and meets the contract: no reply,
+-- image and answer buffer are what both say.
+use mathlib.Core.Path.{_≡_}
+use Prim.Native.Nat.{ℕ, _+_}
+use mathlib.Core.Bool.{Bool, true, false, not, Bool·beq}
+use mathlib.Core.List.{List, [], _∷_}
+use Rattle.words.specs.Choice.{_⇒_⁏_, _and_, _is_}
+use Rattle.words.specs.Bytes.{same}
+use Rattle.slot.specs.declared.Slot.{Slot}
+use Rattle.slot.specs.Slots.{removed}
+use Rattle.record.specs.Raw.{kindOf}
+use Rattle.frame.specs.declared.Reply.{Reply}
+use Rattle.frame.specs.Exchange.{Outcome, Gives, exchange, insertion}
+use Rattle.reader.specs.Runs.{run}
+use Rattle.vectors.specs.Sessions.{lent}
+use Rattle.wrong.specs.Wrong.{Reader, Runner, Inserter, Remover}
+
+-- ---- when two outcomes are alike: in everything
+unfoldable pub likeSlot : Slot → Slot → Bool
+likeSlot s t =
+    kindOf (s .holds) is kindOf (t .holds)
+    and Bool·beq (s .active) (t .active)
+    and s .selected is t .selected
+    and s .page is t .page
+    and Bool·beq (s .«open») (t .«open»)
+
+unfoldable pub likeOutcome : Outcome → Outcome → Bool
+likeOutcome o p =
+    o .number is p .number
+    and same (o .answer) (p .answer)
+    and likeSlot (o .slot) (p .slot)
+    and same (o .image) (p .image)
+
+unfoldable pub likeOutcomes : List Outcome → List Outcome → Bool
+likeOutcomes [] [] = true
+likeOutcomes [] (p ∷ ps) = false
+likeOutcomes (o ∷ os) [] = false
+likeOutcomes (o ∷ os) (p ∷ ps) = likeOutcome o p and likeOutcomes os ps
+
+-- ---- a wrong reader and the input at which it is caught; a run's messages are each lent the smallest answer buffer
+pub data Witness : Type 0 where
+  byMessage : Reader → Slot → List ℕ → List ℕ → ℕ → Witness
+  byRun : Runner → Slot → List ℕ → List (List ℕ) → Witness
+  byInsertion : Inserter → Slot → ℕ → List ℕ → Witness
+  byRemoval : Remover → Slot → Witness
+
+-- it gives something else than the rules
+unfoldable pub caught : Witness → Bool
+caught (byMessage w s image m room) = not (likeOutcome (w s image m room) (exchange s image m room))
+caught (byRun w s image ms) = not (likeOutcomes (w s image (lent ms)) (run s image (lent ms) .outcomes))
+caught (byInsertion w s kind image) = not (likeOutcome (w s kind image) (insertion s kind image))
+caught (byRemoval w s) = not (likeSlot (w s) removed)
+
+-- the number of the first row that is not caught, the first row being number k; 0 where all are
+unfoldable pub uncaught : ℕ → List Witness → ℕ
+uncaught k [] = 0
+uncaught k (w ∷ ws) = let later = uncaught (k + 1) ws in caught w ⇒ later ⁏ k
+
+-- ---- no code is that reader and meets the contract
+-- no reply, image and answer buffer are what both outcomes say
+abbrev pub Apart : Outcome → Outcome → Type 0
+Apart o p = (r : Reply) (left was holds : List ℕ) → Gives o r left was holds → Gives p r left was holds → ⊥
+
+-- the calls of a run: each one's reply, the image it left, and the answer buffer before and after it
+pub record Call : Type 0 where
+  pub reply : Reply
+  pub left : List ℕ
+  pub was : List ℕ
+  pub holds : List ℕ
+
+abbrev pub GivesEach : List Outcome → List Call → Type 0
+GivesEach [] [] = Unit {0}
+GivesEach [] (c ∷ cs) = ⊥
+GivesEach (o ∷ os) [] = ⊥
+GivesEach (o ∷ os) (c ∷ cs) = Gives o (c .reply) (c .left) (c .was) (c .holds) × GivesEach os cs
+
+abbrev pub Refuted : Witness → Type 0
+Refuted (byMessage w s image m room) = Apart (w s image m room) (exchange s image m room)
+Refuted (byRun w s image ms) = (cs : List Call) → GivesEach (w s image (lent ms)) cs → GivesEach (run s image (lent ms) .outcomes) cs → ⊥
+Refuted (byInsertion w s kind image) = Apart (w s kind image) (insertion s kind image)
+Refuted (byRemoval w s) = (r : Slot) → r ≡ w s → r ≡ removed → ⊥
+
+abbrev pub EachRefuted : List Witness → Type 0
+EachRefuted [] = Unit {0}
+EachRefuted (w ∷ ws) = Refuted w × EachRefuted ws
+
+-- the tests at once, for what is proved by computing them
+unfoldable pub tests : ℕ
+unfolding likeSlot likeOutcome likeOutcomes caught uncaught
+tests = 0

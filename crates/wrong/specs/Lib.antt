@@ -1,0 +1,13 @@
+pub mod Wrong
+pub mod Caught
+pub mod WrongReaders
+pub mod WrongDowns
+pub mod WrongAnswers
+pub mod WrongFaults
+pub mod WrongSteps
+pub mod WrongCommands
+pub mod Inputs
+pub mod MessageRows
+pub mod CommandRows
+pub mod Witnesses
+pub mod WrongPrinters
