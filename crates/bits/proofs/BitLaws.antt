@@ -89,6 +89,7 @@ module _ (bits covered : ℕ) where
   bit-same image image′ k e = ap (λ (n : ℕ). ltb k covered ⇒ bitOf n (k % 8) ⁏ 1) e
 
   -- a byte is protected by its bit alone
-  pub protected-same : (image image′ : List ℕ) (k : ℕ) → protectionBit bits covered image′ k ≡ protectionBit bits covered image k → isProtected bits covered image′ k ≡ isProtected bits covered image k
+  pub protected-same : (image image′ : List ℕ) (k : ℕ) → protectionBit bits covered image′ k ≡ protectionBit bits covered image k
+      → isProtected bits covered image′ k ≡ isProtected bits covered image k
   unfolding isProtected
   protected-same image image′ k e = ap (λ (n : ℕ). n is 0) e

@@ -61,7 +61,8 @@ fn broken(holds: Holds, image: &[u8]) -> Refusal
 // What the slot of a raw record does with a message that passed tests 1 and 2.
 fn serve(raw: &mut [u8], image: &mut [u8], msg: &[u8], answer: &mut [u8]) -> Verdict
     requires { ⌜ (10 ≤ length (now msg)) × (leastRoom ≤ length (now answer)) ⌝ }
-    ensures { λ r. ⌜ RawGives (rawServed (slotOf (now (raw .entry))) (now (raw .entry)) (now (image .entry)) (now (msg .entry))) r (now (raw .exit)) (now (image .exit)) (now (answer .entry)) (now (answer .exit)) ⌝ }
+    ensures { λ r. ⌜ RawGives (rawServed (slotOf (now (raw .entry))) (now (raw .entry)) (now (image .entry)) (now (msg .entry))) r (now (raw .exit))
+        (now (image .exit)) (now (answer .entry)) (now (answer .exit)) ⌝ }
 {
     let reading = record::read_record(raw);
     match reading {
@@ -76,7 +77,8 @@ fn serve(raw: &mut [u8], image: &mut [u8], msg: &[u8], answer: &mut [u8]) -> Ver
 
 // One host message on a raw record.
 pub fn message(raw: &mut [u8], image: &mut [u8], msg: &[u8], answer: &mut [u8]) -> Verdict
-    ensures { λ r. ⌜ RawGives (rawExchange (now (raw .entry)) (now (image .entry)) (now (msg .entry)) (length (now (answer .entry)))) r (now (raw .exit)) (now (image .exit)) (now (answer .entry)) (now (answer .exit)) ⌝ }
+    ensures { λ r. ⌜ RawGives (rawExchange (now (raw .entry)) (now (image .entry)) (now (msg .entry)) (length (now (answer .entry)))) r (now (raw .exit))
+        (now (image .exit)) (now (answer .entry)) (now (answer .exit)) ⌝ }
 {
     let meant = reader::front(msg, answer.len());
     match meant {

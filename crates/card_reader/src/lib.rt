@@ -28,7 +28,8 @@ pub extern "C" fn card_reader_message(
     message: &[u8],
     answer: &mut [u8],
 ) -> i32
-    ensures { λ r. ⌜ Returns (rawExchange (now (raw .entry)) (now (image .entry)) (now (message .entry)) (length (now (answer .entry)))) r (now (raw .exit)) (now (image .exit)) (now (answer .entry)) (now (answer .exit)) ⌝ }
+    ensures { λ r. ⌜ Returns (rawExchange (now (raw .entry)) (now (image .entry)) (now (message .entry)) (length (now (answer .entry)))) r (now (raw .exit))
+        (now (image .exit)) (now (answer .entry)) (now (answer .exit)) ⌝ }
 {
     let verdict = calls::message(raw, image, message, answer);
     result_of(verdict)

@@ -116,13 +116,20 @@ module _ (counter full code digits : ℕ) (image guess : List ℕ) where
           go true e = let z : byte image counter ≡ 0 = eqb-true _ _ e in omega (arith, zero-tries z, zero-after z)
           go false e =
               let some : byte image counter ≢ 0 = eqb-false _ _ e in
-              omega (arith, ap (λ (l : List ℕ). tries (byte l counter)) (presenting-wrong before some wrong), ap tries byte-spending, spent-ones (byte image counter) (omega arith) small)
+              omega (
+                arith,
+                ap (λ (l : List ℕ). tries (byte l counter)) (presenting-wrong before some wrong),
+                ap tries byte-spending,
+                spent-ones (byte image counter) (omega arith) small,
+              )
 
       -- a right code that meets a try gives all of them
-      pub right-gives : same guess (codeIn code digits image) ≡ true → tries (byte (presenting counter full code digits image guess) counter) ≡ (tries (byte image counter) is 0 ⇒ 0 ⁏ tries full)
+      pub right-gives : same guess (codeIn code digits image) ≡ true
+          → tries (byte (presenting counter full code digits image guess) counter) ≡ (tries (byte image counter) is 0 ⇒ 0 ⁏ tries full)
       right-gives right = go (eqb (byte image counter) 0) refl
         where
-          go : (b : Bool) → eqb (byte image counter) 0 ≡ b → tries (byte (presenting counter full code digits image guess) counter) ≡ (tries (byte image counter) is 0 ⇒ 0 ⁏ tries full)
+          go : (b : Bool) → eqb (byte image counter) 0 ≡ b
+              → tries (byte (presenting counter full code digits image guess) counter) ≡ (tries (byte image counter) is 0 ⇒ 0 ⁏ tries full)
           go true e = let z : byte image counter ≡ 0 = eqb-true _ _ e in zero-after z ∙ sym (first _ _ (eq-eqb _ _ (zero-tries z)))
           go false e =
               let some : byte image counter ≢ 0 = eqb-false _ _ e in

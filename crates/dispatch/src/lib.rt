@@ -46,7 +46,8 @@ fn unsupported(slot: Slot, msg: &[u8], answer: &mut [u8]) -> Reply
 // The handler of the type byte.
 pub fn handle(slot: Slot, image: &mut [u8], msg: &[u8], answer: &mut [u8]) -> Reply
     requires { ⌜ (10 ≤ length (now msg)) × (leastRoom ≤ length (now answer)) × (imageIsCard (slot .holds) (now image) ≡ true) × (0 < slot .page) ⌝ }
-    ensures { λ r. ⌜ Gives (reply (requestOf (typeByte (now (msg .entry)))) slot (now (image .entry)) (now (msg .entry))) r (now (image .exit)) (now (answer .entry)) (now (answer .exit)) ⌝ }
+    ensures { λ r. ⌜ Gives (reply (requestOf (typeByte (now (msg .entry)))) slot (now (image .entry)) (now (msg .entry))) r (now (image .exit))
+        (now (answer .entry)) (now (answer .exit)) ⌝ }
 {
     let message_type = msg[0];
     match message_type {

@@ -24,7 +24,8 @@ pub gives-is : {o o′ : Outcome} {r : Reply} {left was holds : List ℕ} → o 
 gives-is {o} {o′} {r} {left} {was} {holds} e g = subst⁻¹ (λ (x : Outcome). Gives x r left was holds) e g
 
 -- turned down, all is as it came
-pub gives-down : (refusal : Refusal) (s : Slot) (image was : List ℕ) {r : Reply} → r .verdict ≡ Verdict.Refused refusal → r .slot ≡ s → Gives (turnedDown refusal s image) r image was was
+pub gives-down : (refusal : Refusal) (s : Slot) (image was : List ℕ) {r : Reply} → r .verdict ≡ Verdict.Refused refusal → r .slot ≡ s
+    → Gives (turnedDown refusal s image) r image was was
 gives-down refusal s image was e h = record {
   number = ap number e;
   len = ap answerLength e;
@@ -48,14 +49,20 @@ gives-sealed r m f d was {n} {rep} {left} {mid} {holds} e h p q z =
     let hd : ℕ → List ℕ = λ k. header (answerType r) k (bSlot m) (bSeq m) (bStatus f st) (bError f) (byte9 (answerType r) st) in
     record {
       number = ap number (z .verdict);
-      len = ap answerLength (z .verdict) ∙ omega (arith, length-append (hd (length (d .said))) (d .said), length-header (answerType r) (length (d .said)) (bSlot m) (bSeq m) (bStatus f st) (bError f) (byte9 (answerType r) st), e);
+      len = ap answerLength (z .verdict) ∙ omega (
+        arith,
+        length-append (hd (length (d .said))) (d .said),
+        length-header (answerType r) (length (d .said)) (bSlot m) (bSeq m) (bStatus f st) (bError f) (byte9 (answerType r) st),
+        e,
+      );
       slot = z .slot;
       image = q;
       buffer =
           z .buffer
           ∙ ap (λ (k : ℕ). over (hd k) mid) e
           ∙ ap (over (hd (length (d .said)))) p
-          ∙ over-head 10 (hd (length (d .said))) (d .said) was (length-header (answerType r) (length (d .said)) (bSlot m) (bSeq m) (bStatus f st) (bError f) (byte9 (answerType r) st)) h;
+          ∙ over-head 10 (hd (length (d .said))) (d .said) was
+          (length-header (answerType r) (length (d .said)) (bSlot m) (bSeq m) (bStatus f st) (bError f) (byte9 (answerType r) st)) h;
     }
 
 -- there are no data
@@ -64,7 +71,8 @@ pub gives-plain : (r : Request) (m : List ℕ) (f : Fault) (s : Slot) (image was
 gives-plain r m f s image was h z =
     gives-sealed r m f (idle s image) was refl h (sym (ap (λ (l : List ℕ). take 10 was ++ l) (over-none (drop 10 was)) ∙ take-append-drop 10 was)) refl z
 
-pub sealed-slot : {type : ℕ} {f : Fault} {n : ℕ} {s s′ : Slot} {m : List ℕ} {r : Reply} {was holds : List ℕ} → s ≡ s′ → Sealed type f n s m r was holds → Sealed type f n s′ m r was holds
+pub sealed-slot : {type : ℕ} {f : Fault} {n : ℕ} {s s′ : Slot} {m : List ℕ} {r : Reply} {was holds : List ℕ} → s ≡ s′ → Sealed type f n s m r was holds
+    → Sealed type f n s′ m r was holds
 sealed-slot {type} {f} {n} {s} {s′} {m} {r} {was} {holds} e z = subst (λ (x : Slot). Sealed type f n x m r was holds) e z
 
 -- ---- a reply, with the fault that was found
@@ -74,7 +82,8 @@ module _ (r : Request) (s : Slot) (image m : List ℕ) {f : Fault} (is : f ≡ f
   by-fault {rep} {left} {was} {holds} g = subst (λ (x : Fault). Gives (replied r x s image m) rep left was holds) is g
 
   -- "a failed message has no data and changes neither slot nor image"
-  pub gives-failed : (was : List ℕ) {rep : Reply} {holds : List ℕ} → isClear f ≡ false → 10 ≤ length was → Sealed (answerType r) f 0 s m rep was holds → Gives (reply r s image m) rep image was holds
+  pub gives-failed : (was : List ℕ) {rep : Reply} {holds : List ℕ} → isClear f ≡ false → 10 ≤ length was → Sealed (answerType r) f 0 s m rep was holds
+      → Gives (reply r s image m) rep image was holds
   unfolding replied
   gives-failed was e h z = by-fault (gives-is (ap (answered r m f) (rest _ _ e)) (gives-plain r m f s image was h z))
 

@@ -82,7 +82,8 @@ module _ (f : Facts) (c : Coded f) (s : Slot) (image b : List ℕ) where
   counter-kept Order.Change h ne = byte-sets image (f .code) b (f .counter) (inl (c .behind))
 
   -- where the counter has a protection bit of its own, every order leaves it
-  pub bit-kept : Guarded f → (o : Order) → Fit f b o → protectionBit (f .bits) (f .covered) (imageBy f s image b o) (f .counter) ≡ protectionBit (f .bits) (f .covered) image (f .counter)
+  pub bit-kept : Guarded f → (o : Order) → Fit f b o
+      → protectionBit (f .bits) (f .covered) (imageBy f s image b o) (f .counter) ≡ protectionBit (f .bits) (f .covered) image (f .counter)
   unfolding imageBy
   bit-kept g (Order.Refuse status) h = refl
   bit-kept g Order.Select h = refl

@@ -28,5 +28,6 @@ does-tell f s image b o d n {t} {was} said kept still long room laid len slot pu
 }
 
 -- what an order's handler leaves is what the order leaves
-pub does-by : (f : Facts) (s : Slot) (image b : List ℕ) {o o′ : Order} {t : Told} {l w h : List ℕ} → o ≡ o′ → Does (performed f s image b o′) t l w h → Does (performed f s image b o) t l w h
+pub does-by : (f : Facts) (s : Slot) (image b : List ℕ) {o o′ : Order} {t : Told} {l w h : List ℕ} → o ≡ o′ → Does (performed f s image b o′) t l w h
+    → Does (performed f s image b o) t l w h
 does-by f s image b {o} {o′} {t} {l} {w} {h} e g = subst⁻¹ (λ (x : Order). Does (performed f s image b x) t l w h) e g

@@ -3,7 +3,8 @@ use mathlib.Core.Path.{_≡_, refl, sym, ap, ap₂, _∙_, subst⁻¹}
 use mathlib.Core.List.{List, [], _∷_, _++_}
 use mathlib.Core.Bool.{Bool, true, false}
 use Prim.Native.Nat.{ℕ, suc, _+_, _-_, _*_, _/_, _%_, _≤_, _<_, _∣_}
-use native.Mathlib.Nat.{add-mod-right, mul-mod-right, mul-div-cancel', mul-comm, mul-suc, div-lt-iff-lt-mul, mod-mod, mod-mod-of-dvd, mod-add-mod, mul-add-mod-self-left, mod-eq-of-lt, add-zero, div-add-mod, mod-lt, mod-le, mul-le-mul-left, dvd-of-mod-eq-zero}
+use native.Mathlib.Nat.{add-mod-right, mul-mod-right, mul-div-cancel', mul-comm, mul-suc, div-lt-iff-lt-mul, mod-mod, mod-mod-of-dvd, mod-add-mod}
+use native.Mathlib.Nat.{mul-add-mod-self-left, mod-eq-of-lt, add-zero, div-add-mod, mod-lt, mod-le, mul-le-mul-left, dvd-of-mod-eq-zero}
 use native.Mathlib.Numerals.{add-one}
 use native.Mathlib.Omega.{arith}
 use lib.ListN.{length, take, drop, set, length-set, length-drop, take-append-drop}
@@ -93,7 +94,8 @@ module _ (reader chip : ℕ) where
       let im : List ℕ = set image (lands chip c a) v in
       let next : a + 1 + length (w ∷ vs) ≡ a + length (v ∷ w ∷ vs) = omega arith in
       ap (λ (n : ℕ). pageWrite reader chip (set image (lands chip n a) v) n (a + 1) (w ∷ vs ++ ws)) e
-      ∙ run-stores im c (a + 1) (w ∷ vs) ws (omega arith) (cut-on reader c a (omega arith)) (omega (arith, mod-next a reader (omega arith))) (omega (arith, to, ap (λ (n : ℕ). n % chip) to, mod-next (lands chip c a) chip (omega arith)))
+      ∙ run-stores im c (a + 1) (w ∷ vs) ws (omega arith) (cut-on reader c a (omega arith)) (omega (arith, mod-next a reader (omega arith)))
+      (omega (arith, to, ap (λ (n : ℕ). n % chip) to, mod-next (lands chip c a) chip (omega arith)))
       ∙ ap₂ (λ (n m : ℕ). pageWrite reader chip (sets im n (w ∷ vs)) c m ws) (to ∙ add-one (lands chip c a)) next
 
   -- one turn of the loop: k bytes, no more than are left of the reader page, of the chip page and of the data

@@ -78,13 +78,15 @@ called-run {r} {image} (called m was g later) s start e i =
     called-run later (o .slot) (o .image) (g .raw ∙ ap (λ (x : RawOutcome). x .raw) k) (g .image ∙ ap (λ (x : RawOutcome). x .image) k)
 
 -- ---- messages of a sitting
-pub sat-run : {h : Held} {had : List ℕ} {ms : List Sent} {h′ : Held} {left′ : List ℕ} → Sat h had ms h′ left′ → (s : Slot) (image : List ℕ) → h .slot ≡ s → take (h .size) had ≡ image
+pub sat-run : {h : Held} {had : List ℕ} {ms : List Sent} {h′ : Held} {left′ : List ℕ} → Sat h had ms h′ left′ → (s : Slot) (image : List ℕ) → h .slot ≡ s
+    → take (h .size) had ≡ image
     → (h′ .slot ≡ run s image ms .slot) × (take (h′ .size) left′ ≡ run s image ms .image)
 unfolding run outcomeOf
 sat-run (stood h had) s image e i = (e, i)
 sat-run {h} {had} (sat m {d = d} {left = left} g later) s image e i =
     let o : Outcome = exchange s image m leastRoom in
-    let k : exchange (h .slot) (take (h .size) had) m leastRoom ≡ o = ap (λ (t : Slot). exchange t (take (h .size) had) m leastRoom) e ∙ ap (λ (l : List ℕ). exchange s l m leastRoom) i in
+    let k : exchange (h .slot) (take (h .size) had) m leastRoom ≡ o = ap (λ (t : Slot). exchange t (take (h .size) had) m leastRoom) e
+    ∙ ap (λ (l : List ℕ). exchange s l m leastRoom) i in
     sat-run later (o .slot) (o .image) (g .slot ∙ ap (λ (x : Outcome). x .slot) k) (held-is g ∙ ap (λ (x : Outcome). x .image) k)
 
 -- ---- the sentence, for both

@@ -32,12 +32,14 @@ module _ (chip : Chip) (s : Slot) (image : List ℕ) (m : Sent) (holds : s .hold
 
   -- B1 reads the counter that stands in the image, and leaves it
   pub counter-told : (n : ℕ) → heard s image m ≡ true → requested m ≡ Transfer → order (facts chip) s image (apdu (m .message)) ≡ Order.Counter n
-      → (sending s image m .answer ≡ answer Transfer (m .message) Fault.Clear (sending s image m .slot) (byte image (facts chip .counter) ∷ replicate (n - 1) 0 ++ (0x90 ∷ 0x00 ∷ [])))
+      → (sending s image m .answer ≡ answer Transfer (m .message) Fault.Clear (sending s image m .slot)
+      (byte image (facts chip .counter) ∷ replicate (n - 1) 0 ++ (0x90 ∷ 0x00 ∷ [])))
       × (sending s image m .image ≡ image)
   unfolding performed saidBy imageBy slotBy counterRead
   counter-told n h t e =
       let p : sending s image m ≡ answered Transfer (m .message) Fault.Clear (performed (facts chip) s image (body (apdu (m .message))) (Order.Counter n)) =
       transfer-does chip s image m holds h t ∙ ap (λ (o : Order). answered Transfer (m .message) Fault.Clear (performed (facts chip) s image (body (apdu (m .message))) o)) e in (
-        subst⁻¹ (λ (o : Outcome). o .answer ≡ answer Transfer (m .message) Fault.Clear (o .slot) (byte image (facts chip .counter) ∷ replicate (n - 1) 0 ++ (0x90 ∷ 0x00 ∷ []))) p refl,
+        subst⁻¹ (λ (o : Outcome). o .answer ≡ answer Transfer (m .message) Fault.Clear (o .slot)
+            (byte image (facts chip .counter) ∷ replicate (n - 1) 0 ++ (0x90 ∷ 0x00 ∷ []))) p refl,
         ap (λ (o : Outcome). o .image) p,
       )

@@ -35,7 +35,8 @@ module _ (chip : Chip) (c : facts chip .coded ≡ true) (s : Slot) (image : List
   abbrev f : Facts
   f = facts chip
 
-  code-tries : IsCard f image → tries (byte (afterCode f image (body (apdu (m .message)))) (f .counter)) ≡ after (tries (f .full)) (triesIn f image) (rightNow f image m ⇒ right ⁏ wrong)
+  code-tries : IsCard f image
+      → tries (byte (afterCode f image (body (apdu (m .message)))) (f .counter)) ≡ after (tries (f .full)) (triesIn f image) (rightNow f image m ⇒ right ⁏ wrong)
   unfolding rightNow
   code-tries k =
       let l : Coded f = coded chip c in

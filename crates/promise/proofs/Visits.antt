@@ -68,6 +68,7 @@ pub counter-asked : (heard (burned .slot) (burned .image) asks ≡ true) × (req
 unfolding rules image4442 lent transfer heard
 counter-asked = (refl, refl, refl)
 
-pub counter-read : (sending (burned .slot) (burned .image) asks .answer ≡ success (0x04 ∷ replicate 3 0 ++ (0x90 ∷ 0x00 ∷ []))) × (sending (burned .slot) (burned .image) asks .image ≡ burned .image)
+pub counter-read : (sending (burned .slot) (burned .image) asks .answer ≡ success (0x04 ∷ replicate 3 0 ++ (0x90 ∷ 0x00 ∷ [])))
+    × (sending (burned .slot) (burned .image) asks .image ≡ burned .image)
 unfolding rules image4442 lent transfer success
 counter-read = counter-told Sle4442 (burned .slot) (burned .image) asks refl 4 (counter-asked .0) (counter-asked .1) (counter-asked .2)

@@ -67,7 +67,8 @@ record Met (r : Request) (s : Slot) (f : Fault) : Type 0 where
 fault-met : (r : Request) (s : Slot) (m : List ℕ) → Met r s (faultOf r s m)
 unfolding faultOf
 fault-met r s m =
-    past (Met r s) _ (record { met = no }) (λ _. past (Met r s) _ (record { met = no }) (λ _. past (Met r s) _ (record { met = no }) (λ _. past (Met r s) _ (record { met = no }) (λ _.
+    past (Met r s) _ (record { met = no })
+    (λ _. past (Met r s) _ (record { met = no }) (λ _. past (Met r s) _ (record { met = no }) (λ _. past (Met r s) _ (record { met = no }) (λ _.
     either (Met r s) (not (isClear (headerFault r m))) {x = headerFault r m} (λ e. record { met = λ h. absurd (false≢true (sym (not-true _ e) ∙ h)) }) (λ _.
     either (Met r s) _ (λ _. record { met = no }) (λ e. record { met = λ _. not-false _ e }))))))
   where

@@ -86,11 +86,13 @@ command-proper chip s image d e on p =
     let image′ : List ℕ = imageBy (facts chip) s image (body d) o in
     let k : IsCard (facts chip) image = proper-card chip s image e p in
     record {
-      card = ap (λ (h : Holds). imageIsCard h image′) (slotBy-holds (facts chip) s image (body d) o ∙ e) ∙ card-whole (facts chip) image′ (card-kept chip s image (body d) o k (order-fits (facts chip) s image d));
+      card = ap (λ (h : Holds). imageIsCard h image′) (slotBy-holds (facts chip) s image (body d) o ∙ e)
+          ∙ card-whole (facts chip) image′ (card-kept chip s image (body d) o k (order-fits (facts chip) s image d));
       sound = sound-whole _ _ (order-sound chip s image d e on k (sound-parts s image (p .sound)));
     }
 
-deed-proper : (r : Request) (h : Holds) (s : Slot) (image m : List ℕ) → s .holds ≡ h → ready r s ≡ true → Proper s image → Proper (deed r h s image m .slot) (deed r h s image m .image)
+deed-proper : (r : Request) (h : Holds) (s : Slot) (image m : List ℕ) → s .holds ≡ h → ready r s ≡ true → Proper s image
+    → Proper (deed r h s image m .slot) (deed r h s image m .image)
 unfolding deed commanded performed
 deed-proper PowerOn Empty s image m e on p = p
 deed-proper PowerOn (Card chip) s image m e on p = record { card = p .card; sound = sound-whole _ _ (on-sound s image on (sound-parts s image (p .sound))) }

@@ -19,5 +19,8 @@ use Rattle.frame.specs.Exchange.{reset, deed, replied, reply, served, exchange,
 use Rattle.reader.specs.Runs.{run}
 
 unfoldable pub rules : ℕ
-unfolding trailingZeros _⇒_⁏_ _and_ _or_ _means_ same fourBytes fourAt over series chipAmong chipOf spent cleared protectionBit isProtected firstProtected protecting protectEqual packed packedBytes isCard pageSize emptySound idleSound typeSound openSound sound visible bytesRead counterRead cutStart lands pageWrite written spending judging presenting accepts insOf steps order saidBy imageBy slotBy performed commanded reset requestOf faultOf cardState bStatus byte9 header answer deed replied reply served exchange insertedAs insertion run
+unfolding trailingZeros _⇒_⁏_ _and_ _or_ _means_ same fourBytes fourAt over series chipAmong chipOf spent cleared protectionBit isProtected
+    firstProtected protecting protectEqual packed packedBytes isCard pageSize emptySound idleSound typeSound openSound sound visible bytesRead
+    counterRead cutStart lands pageWrite written spending judging presenting accepts insOf steps order saidBy imageBy slotBy performed commanded reset
+    requestOf faultOf cardState bStatus byte9 header answer deed replied reply served exchange insertedAs insertion run
 rules = 0

@@ -60,7 +60,8 @@ pub fn serve(slot: Slot, image: &mut [u8], msg: &[u8], answer: &mut [u8]) -> Rep
 
 // One host message: the four tests in order, then the handler.
 pub fn message(slot: Slot, image: &mut [u8], msg: &[u8], answer: &mut [u8]) -> Reply
-    ensures { λ r. ⌜ Gives (exchange slot (now (image .entry)) (now (msg .entry)) (length (now (answer .entry)))) r (now (image .exit)) (now (answer .entry)) (now (answer .exit)) ⌝ }
+    ensures { λ r. ⌜ Gives (exchange slot (now (image .entry)) (now (msg .entry)) (length (now (answer .entry)))) r (now (image .exit)) (now (answer .entry))
+        (now (answer .exit)) ⌝ }
 {
     let meant = front(msg, answer.len());
     match meant {

@@ -66,7 +66,8 @@ fn put_in(kind: u8, card: &[u8], slot: Slot, size: usize, image: &mut [u8]) -> D
 // An insert's body is a kind byte and an image; an empty one counts as one of unknown kind, as 0 is.
 fn insert(body: &[u8], slot: Slot, size: usize, image: &mut [u8]) -> Done
     requires { ⌜ (length (now image) ≡ largest) × (size ≤ largest) ⌝ }
-    ensures { λ r. ⌜ ((was : List ℕ) → Leaves (outcomeOf Mark.Insert (now (body .entry)) slot (take size (now (image .entry))) leastRoom) r (now (image .entry)) (now (image .exit)) was was) ⌝ }
+    ensures { λ r. ⌜
+        ((was : List ℕ) → Leaves (outcomeOf Mark.Insert (now (body .entry)) slot (take size (now (image .entry))) leastRoom) r (now (image .entry)) (now (image .exit)) was was) ⌝ }
 {
     if body.len() == 0 {
         return put_in(0, body, slot, size, image);
@@ -90,7 +91,8 @@ fn remove(slot: Slot) -> Done
 
 fn message(body: &[u8], slot: Slot, size: usize, image: &mut [u8], answer: &mut [u8]) -> Done
     requires { ⌜ size ≤ length (now image) ⌝ }
-    ensures { λ r. ⌜ Leaves (exchange slot (take size (now (image .entry))) (now (body .entry)) (length (now (answer .entry)))) r (now (image .entry)) (now (image .exit)) (now (answer .entry)) (now (answer .exit)) ⌝ }
+    ensures { λ r. ⌜ Leaves (exchange slot (take size (now (image .entry))) (now (body .entry)) (length (now (answer .entry)))) r (now (image .entry))
+        (now (image .exit)) (now (answer .entry)) (now (answer .exit)) ⌝ }
 {
     let reply = reader::message(slot, &mut image[..size], body, answer);
     let verdict = reply.verdict;
@@ -110,7 +112,8 @@ pub fn perform(
     image: &mut [u8; LARGEST],
     answer: &mut [u8; ROOM],
 ) -> Done
-    ensures { λ r. ⌜ Leaves (outcomeOf mark (now (body .entry)) (held .slot) (take (held .size) (now (image .entry))) leastRoom) r (now (image .entry)) (now (image .exit)) (now (answer .entry)) (now (answer .exit)) ⌝ }
+    ensures { λ r. ⌜ Leaves (outcomeOf mark (now (body .entry)) (held .slot) (take (held .size) (now (image .entry))) leastRoom) r (now (image .entry))
+        (now (image .exit)) (now (answer .entry)) (now (answer .exit)) ⌝ }
 {
     let slot = held.slot;
     let size = least(held.size, LARGEST);

@@ -17,7 +17,8 @@ use Rattle.slot.specs.declared.Slot.{Slot}
 use Rattle.steps.specs.declared.Status.{Status}
 use Rattle.steps.specs.declared.Order.{Order}
 use Rattle.steps.specs.Fits.{Fit, Short}
-use Rattle.steps.specs.Steps.{Ins, Select, Page, Read, Counter, Bits, Write, Protect, Present, Change, Other, insOf, place, p3, body, known, needsType, has, following, lengthFits, placeFits, valueFits, needsOpen, hitsProtected, ordered, steps, order}
+use Rattle.steps.specs.Steps.{Ins, Select, Page, Read, Counter, Bits, Write, Protect, Present, Change, Other, insOf, place, p3, body, known, needsType}
+use Rattle.steps.specs.Steps.{has, following, lengthFits, placeFits, valueFits, needsOpen, hitsProtected, ordered, steps, order}
 use Rattle.steps.proofs.StepLaws.{Past3, Past9, past3, past4-ready, past5, past6, pastP3, past7, past8, past9-ready, past10}
 
 -- every step passed, INS being i

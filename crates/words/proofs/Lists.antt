@@ -8,7 +8,8 @@ use native.Mathlib.Nat.{add-comm, zero-add, not-suc-le-zero, le-of-suc-le-suc, a
 use native.Mathlib.Numerals.{add-one}
 use native.Mathlib.Omega.{arith}
 use lib.ListN.{length, take, drop, set, getD, length-append, length-drop, drop-of-length-le, take-append-drop}
-use lib.Seq.{length-take-le, set-at, drop-cons, drop-drop, drop-at, append-snoc, take-at, take-all, take-append-seam, drop-set-lt, sets, getD-set-other, getD-append-add, getD-drop, take-add}
+use lib.Seq.{length-take-le, set-at, drop-cons, drop-drop, drop-at, append-snoc, take-at, take-all, take-append-seam, drop-set-lt, sets, getD-set-other}
+use lib.Seq.{getD-append-add, getD-drop, take-add}
 use lib.Dec.{ltb}
 use borrow.Rule.Slice.PartMut.{putMid}
 use borrow.Author.Tests.{eq-eqb, ne-eqb, eqb-true, ltb-true, ltb-false}

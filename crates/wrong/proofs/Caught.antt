@@ -18,7 +18,8 @@ use Rattle.frame.specs.declared.Reply.{Reply}
 use Rattle.frame.specs.Exchange.{Outcome, Gives}
 use Rattle.reader.specs.Rules.{rules}
 use Rattle.wrong.specs.Wrong.{parts}
-use Rattle.wrong.specs.Caught.{likeSlot, likeOutcome, likeOutcomes, Witness, byMessage, byRun, byInsertion, byRemoval, caught, uncaught, tests, Apart, Call, GivesEach, Refuted, EachRefuted}
+use Rattle.wrong.specs.Caught.{likeSlot, likeOutcome, likeOutcomes, Witness, byMessage, byRun, byInsertion, byRemoval, caught, uncaught, tests, Apart}
+use Rattle.wrong.specs.Caught.{Call, GivesEach, Refuted, EachRefuted}
 use Rattle.wrong.specs.Witnesses.{wrongReaders, witnesses}
 
 -- ---- what is equal is alike

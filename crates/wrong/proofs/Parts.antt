@@ -29,7 +29,8 @@ use Rattle.frame.specs.Exchange.{served, Outcome, turnedDown, answered, replied
 use Rattle.reader.specs.Runs.{Sent, sending, run}
 use Rattle.promise.specs.Sequences.{sentWith}
 use Rattle.promise.proofs.Reached.{transfers-is, transfer-does}
-use Rattle.wrong.specs.Wrong.{Reader, oneByOne, cardIn, taking, vetting, faulting, upon, commandingOn, commanding, ordering, sooner, letting, barring, doing, atWrong, atRight, insertsAs, insertsBy, uponInsert}
+use Rattle.wrong.specs.Wrong.{Reader, oneByOne, cardIn, taking, vetting, faulting, upon, commandingOn, commanding, ordering, sooner, letting, barring}
+use Rattle.wrong.specs.Wrong.{doing, atWrong, atRight, insertsAs, insertsBy, uponInsert}
 
 -- a reader gives what ours gives, at every input
 abbrev pub Ours : Reader → Type 0

@@ -14,13 +14,20 @@ use Rattle.bits.proofs.protect.Statement.{statement}
 use Rattle.bits.proofs.protect.Tie as tie
 
 abbrev Inv-loop : tie.InvT-loop
-Inv-loop image₀ bits covered at «data» i₀ image i = (i ≤ length «data») × (length image ≡ length image₀) × (protectEqual bits covered image₀ at «data» ≡ protectEqual bits covered image (at + i) (drop i «data»))
+Inv-loop image₀ bits covered at «data» i₀ image i =
+    (i ≤ length «data») × (length image ≡ length image₀)
+    × (protectEqual bits covered image₀ at «data» ≡ protectEqual bits covered image (at + i) (drop i «data»))
 
 abbrev μ-loop : tie.MeasureT-loop
 μ-loop image₀ bits covered at «data» i₀ image i = length «data» - i
 
 loop-holds : tie.Need-loop-holds Inv-loop μ-loop
-loop-holds c = (omega arith, refl, ap (λ (m : ℕ). protectEqual (c .before .before .args .bits) (c .before .before .args .covered) (c .before .before .args .image .now) m (c .before .before .args .«data» .now)) (sym (add-zero (c .before .before .args .at))))
+loop-holds c = (
+  omega arith,
+  refl,
+  ap (λ (m : ℕ). protectEqual (c .before .before .args .bits) (c .before .before .args .covered)
+      (c .before .before .args .image .now) m (c .before .before .args .«data» .now)) (sym (add-zero (c .before .before .args .at))),
+)
 
 add-k : tie.Need-add-k Inv-loop μ-loop
 add-k c = search needs

@@ -13,7 +13,8 @@ use Rattle.bits.proofs.read_bits.Statement.{statement}
 use Rattle.bits.proofs.read_bits.Tie as tie
 
 abbrev Inv-loop : tie.InvT-loop
-Inv-loop image bits covered at n out₀ from shift j₀ out j = (j ≤ n) × (length out ≡ length out₀) × (out ≡ over (series (λ (i : ℕ). packed bits covered image (at + 8 * i) 8) 0 j) out₀)
+Inv-loop image bits covered at n out₀ from shift j₀ out j =
+    (j ≤ n) × (length out ≡ length out₀) × (out ≡ over (series (λ (i : ℕ). packed bits covered image (at + 8 * i) 8) 0 j) out₀)
 
 abbrev μ-loop : tie.MeasureT-loop
 μ-loop image bits covered at n out₀ from shift j₀ out j = n - j
@@ -41,12 +42,17 @@ same-length c = search needs
 
 returns : tie.Need-returns Inv-loop μ-loop
 returns c =
-    let a = c .before .before .before .before .before .before .before .before .args in
+    let at-if1 = c .before .before .before .before .before in
+    let at-shared-slice-known = at-if1 .before .before in
+    let start = at-shared-slice-known .before in
+    let a = start .args in
     let from : ℕ = a .bits + a .at / 8 in
     let e : from + a .n - from ≡ a .n = omega arith in
     c .before .before .lay .ensures
     ∙ ap (λ (m : ℕ). over (take m (drop from (a .image .now))) (a .out .now)) e
-    ∙ ap (λ (l : List ℕ). over l (a .out .now)) (packed-whole (a .bits) (a .covered) (a .image .now) (a .at) (a .n) (c .before .before .before .before .before .if1 .taken) (omega arith) (omega arith) (λ k. omega (arith, c .before .before .before .before .before .before .before .shared-slice-known .given k)))
+    ∙ ap (λ (l : List ℕ). over l (a .out .now))
+    (packed-whole (a .bits) (a .covered) (a .image .now) (a .at) (a .n) (at-if1 .if1 .taken) (omega arith) (omega arith)
+    (λ k. omega (arith, at-shared-slice-known .shared-slice-known .given k)))
 
 loop-holds : tie.Need-loop-holds Inv-loop μ-loop
 unfolding series
@@ -96,14 +102,18 @@ loop-less c = search needs
 
 loop-again : tie.Need-loop-again Inv-loop μ-loop
 loop-again c =
-    let l = c .before .before .before .before .before .loop in
-    let a = c .before .before .before .before .before .before .before .before .before .args in
+    let at-loop = c .before .before .before .before .before in
+    let start = at-loop .before .before .before .before in
+    let l = at-loop .loop in
+    let a = start .args in
     let k : ℕ = a .bits + a .at / 8 + l .j in
     let f : ℕ → ℕ = λ i. packed (a .bits) (a .covered) (a .image .now) (a .at + 8 * i) 8 in
     let low : c .before .before .wide .result ≡ byte (a .image .now) k = c .before .before .wide .ensures .0 in
     let high : c .wide2 .result ≡ byte (a .image .now) (k + 1) = c .wide2 .ensures .0 in
     let made : (c .before .before .wide .result + 256 * c .wide2 .result) / 2 ^ (a .at % 8) % 256 ≡ f (l .j) =
-    ap₂ (λ (x y : ℕ). (x + 256 * y) / 2 ^ (a .at % 8) % 256) low high ∙ sym (packed-made (a .bits) (a .covered) (a .image .now) (a .at) (l .j) (omega arith) (omega (arith, low, c .before .before .wide .ensures .1))) in (
+    ap₂ (λ (x y : ℕ). (x + 256 * y) / 2 ^ (a .at % 8) % 256) low high
+    ∙ sym (packed-made (a .bits) (a .covered) (a .image .now) (a .at) (l .j) (omega arith)
+    (omega (arith, low, c .before .before .wide .ensures .1))) in (
       omega arith,
       simp length-set (l .inv .1),
       ap₂ (λ (t : List ℕ) (v : ℕ). set t (l .j) v) (l .inv .2) made ∙ series-next f (l .j) (a .out .now) (omega arith),

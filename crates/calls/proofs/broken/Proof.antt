@@ -25,11 +25,19 @@ is-card-requires c κs = search needs
 
 returns-2 : tie.Need-returns-2
 unfolding brokenAs
-returns-2 c = taken _ (ap (λ (h : Holds). not (imageIsCard h (c .before .before .before .before .before .before .args .image .now))) (c .before .before .before .holds .given .1) ∙ ap not (sym (c .before .is-card .ensures)) ∙ c .if1 .taken)
+returns-2 c =
+    let at-holds = c .before .before .before in
+    let start = at-holds .before .before .before in
+    taken _ (ap (λ (h : Holds). not (imageIsCard h (start .args .image .now))) (at-holds .holds .given .1)
+    ∙ ap not (sym (c .before .is-card .ensures)) ∙ c .if1 .taken)
 
 returns-3 : tie.Need-returns-3
 unfolding brokenAs
-returns-3 c = passed _ (ap (λ (h : Holds). not (imageIsCard h (c .before .before .before .before .before .before .args .image .now))) (c .before .before .before .holds .given .1) ∙ ap not (sym (c .before .is-card .ensures)) ∙ c .if1 .left) refl
+returns-3 c =
+    let at-holds = c .before .before .before in
+    let start = at-holds .before .before .before in
+    passed _ (ap (λ (h : Holds). not (imageIsCard h (start .args .image .now))) (at-holds .holds .given .1)
+    ∙ ap not (sym (c .before .is-card .ensures)) ∙ c .if1 .left) refl
 
 pub broken-spec : {M : Type 1} → statement M
 broken-spec =

@@ -15,14 +15,19 @@ use Rattle.calls.proofs.insert.Tie as tie
 
 returns : tie.Need-returns
 unfolding rawInsertion
-returns c = raw-is (first _ _ (ap not (ne-eqb _ 32 (c .if1 .taken)))) (raw-down Refusal.Record (c .before .before .before .args .raw .now) (c .before .before .before .args .image .now) [] refl)
+returns c =
+    let start = c .before .before .before in
+    raw-is (first _ _ (ap not (ne-eqb _ 32 (c .if1 .taken)))) (raw-down Refusal.Record (start .args .raw .now) (start .args .image .now) [] refl)
 
 slice-read-if2 : tie.Need-slice-read-if2
 slice-read-if2 c = search needs
 
 returns-2 : tie.Need-returns-2
 unfolding rawInsertion
-returns-2 c = raw-is (rest _ _ (ap not (eq-eqb _ 32 (c .before .before .if1 .left))) ∙ first _ _ (ap not (ne-eqb _ 0 (c .if2 .taken)))) (raw-down Refusal.Occupied (c .before .before .before .before .before .args .raw .now) (c .before .before .before .before .before .args .image .now) [] refl)
+returns-2 c =
+    let start = c .before .before .before .before .before in
+    raw-is (rest _ _ (ap not (eq-eqb _ 32 (c .before .before .if1 .left))) ∙ first _ _ (ap not (ne-eqb _ 0 (c .if2 .taken))))
+    (raw-down Refusal.Occupied (start .args .raw .now) (start .args .image .now) [] refl)
 
 empty-requires : tie.Need-empty-requires
 empty-requires c κs = search needs
@@ -39,9 +44,15 @@ same-length c = search needs
 returns-3 : tie.Need-returns-3
 unfolding rawInsertion
 returns-3 c =
-    let a = c .before .before .before .before .before .before .before .before .before .before .before .args in
-    raw-is (rest _ _ (ap not (eq-eqb _ 32 (c .before .before .before .before .before .before .before .before .if1 .left))) ∙ rest _ _ (ap not (eq-eqb _ 0 (c .before .before .before .before .before .before .if2 .left))))
-    (raw-is (ap (λ (s : Slot). rawly (a .raw .now) (insertion s (a .kind) (a .image .now))) (sym (c .before .before .before .before .before .empty .ensures))) (raw-kept (a .raw .now) (c .before .before .before .before .insert .ensures) (c .before .before .keep .ensures .0) (c .before .before .keep .ensures .1)))
+    let at-insert = c .before .before .before .before in
+    let at-empty = at-insert .before in
+    let at-if2 = at-empty .before in
+    let at-if1 = at-if2 .before .before in
+    let start = at-if1 .before .before .before in
+    let a = start .args in
+    raw-is (rest _ _ (ap not (eq-eqb _ 32 (at-if1 .if1 .left))) ∙ rest _ _ (ap not (eq-eqb _ 0 (at-if2 .if2 .left))))
+    (raw-is (ap (λ (s : Slot). rawly (a .raw .now) (insertion s (a .kind) (a .image .now))) (sym (at-empty .empty .ensures)))
+    (raw-kept (a .raw .now) (at-insert .insert .ensures) (c .before .before .keep .ensures .0) (c .before .before .keep .ensures .1)))
 
 pub insert-spec : {M : Type 1} → statement M
 insert-spec =

@@ -30,9 +30,11 @@ same-length c = search needs
 returns-2 : tie.Need-returns-2
 unfolding keeping
 returns-2 c =
-    let e = c .before .before .before .before .before .before .verdict .given .1 in (
+    let at-verdict = c .before .before .before .before .before .before in
+    let start = at-verdict .before .before .before in
+    let e = at-verdict .verdict .given .1 in (
       sym e,
-      c .before .before .write-record .ensures ∙ first _ _ (eq-eqb _ 32 (c .before .before .before .before .before .before .before .before .before .pre)) ∙ taken _ (ap (λ (v : Verdict). number v is 0) e),
+      c .before .before .write-record .ensures ∙ first _ _ (eq-eqb _ 32 (start .pre)) ∙ taken _ (ap (λ (v : Verdict). number v is 0) e),
     )
 
 pub keep-spec : {M : Type 1} → statement M

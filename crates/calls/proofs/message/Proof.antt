@@ -50,8 +50,11 @@ same-length-3 c = search needs
 
 returns-2 : tie.Need-returns-2
 returns-2 c =
+    let at-serve = c .before .before .before .before .before .before in
+    let at-enum-told = at-serve .before .before .before .before in
+    let at-before = at-enum-told .before in
     let on = c .before .before .before .before .before .before .before .before .before .before .before .before in
-    raw-is (by-front on _ (c .before .before .before .before .before .before .before .before .before .before .enum-told .given .1)) (c .before .before .before .before .before .before .serve .ensures)
+    raw-is (by-front on _ (at-enum-told .enum-told .given .1)) (at-serve .serve .ensures)
 
 pub message-spec : {M : Type 1} → statement M
 message-spec =

@@ -30,8 +30,18 @@ same-length c = search needs
 returns-2 : tie.Need-returns-2
 unfolding rawRemoval
 returns-2 c =
-    raw-is (rest _ _ (ap not (eq-eqb _ 32 (c .before .before .before .before .before .if1 .left))))
-    (record { number = refl; len = refl; raw = c .before .before .write-record .ensures ∙ first _ _ (eq-eqb _ 32 (c .before .before .before .before .before .if1 .left)) ∙ ap rawOf (c .before .before .before .before .empty .ensures); image = refl; buffer = sym (over-none []) })
+    let at-empty = c .before .before .before .before in
+    let at-if1 = at-empty .before in
+    raw-is (rest _ _ (ap not (eq-eqb _ 32 (at-if1 .if1 .left))))
+    (record {
+      number = refl;
+      len = refl;
+      raw =
+          c .before .before .write-record .ensures ∙ first _ _ (eq-eqb _ 32 (at-if1 .if1 .left)) ∙ ap rawOf (at-empty .empty .ensures);
+      image =
+          refl;
+      buffer = sym (over-none []);
+    })
 
 pub remove-spec : {M : Type 1} → statement M
 remove-spec =

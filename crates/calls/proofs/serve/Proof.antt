@@ -81,10 +81,13 @@ same-length-6 c = search needs
 returns-3 : tie.Need-returns-3
 unfolding rawServed
 returns-3 c =
+    let at-serve = c .before .before .before .before .before .before .before .before in
+    let at-reading2 = at-serve .before .before .before .before in
+    let at-before = at-reading2 .before in
     let on = c .before .before .before .before .before .before .before .before .before .before .before .before .before .before in
     let a = on .before .before .before .before .before .before .args in
-    raw-is (by-reading on _ (c .before .before .before .before .before .before .before .before .before .before .before .before .reading2 .given .1))
-    (raw-kept (a .raw .now) (c .before .before .before .before .before .before .before .before .serve .ensures) (c .before .before .keep-state .ensures .0) (c .before .before .keep-state .ensures .1))
+    raw-is (by-reading on _ (at-reading2 .reading2 .given .1))
+    (raw-kept (a .raw .now) (at-serve .serve .ensures) (c .before .before .keep-state .ensures .0) (c .before .before .keep-state .ensures .1))
 
 pub serve-spec : {M : Type 1} → statement M
 serve-spec =

@@ -10,13 +10,19 @@ insert-requires : tie.Need-insert-requires
 insert-requires c κs = search needs
 
 result-of-requires : tie.Need-result-of-requires
-result-of-requires c κs = let a = c .before .before .before .before .before .before .args in omega (arith, c .before .before .insert .ensures .len, insertion-short (a .raw .now) (a .kind) (a .image .now))
+result-of-requires c κs =
+    let start = c .before .before .before .before .before .before in
+    let a = start .args in omega (arith, c .before .before .insert .ensures .len, insertion-short (a .raw .now) (a .kind) (a .image .now))
 
 same-length : tie.Need-same-length
 same-length c = search needs
 
 returns : tie.Need-returns
-returns c = let a = c .before .before .before .before .before .before .before .args in returns-number (c .before .before .before .insert .ensures) (insertion-short (a .raw .now) (a .kind) (a .image .now)) (c .result-of .ensures)
+returns c =
+    let at-insert = c .before .before .before in
+    let start = at-insert .before .before .before .before in
+    let a =
+    start .args in returns-number (at-insert .insert .ensures) (insertion-short (a .raw .now) (a .kind) (a .image .now)) (c .result-of .ensures)
 
 pub card-reader-insert-spec : {M : Type 1} → statement M
 card-reader-insert-spec =

@@ -16,7 +16,10 @@ same-length : tie.Need-same-length
 same-length c = search needs
 
 returns : tie.Need-returns
-returns c = let a = c .before .before .before .before .before .before .args in returns-number (c .before .before .before .remove .ensures) (removal-short (a .raw .now)) (c .result-of .ensures)
+returns c =
+    let at-remove = c .before .before .before in
+    let start = at-remove .before .before .before in
+    let a = start .args in returns-number (at-remove .remove .ensures) (removal-short (a .raw .now)) (c .result-of .ensures)
 
 pub card-reader-remove-spec : {M : Type 1} → statement M
 card-reader-remove-spec =

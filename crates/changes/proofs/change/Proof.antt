@@ -28,11 +28,14 @@ same-length-2 c = search needs
 returns : tie.Need-returns
 unfolding performed saidBy imageBy slotBy
 returns c =
-    let a = c .before .before .before .before .before .before .before .before .before .before .before .before .args in
+    let at-store = c .before .before .before .before .before .before in
+    let at-facts = at-store .before in
+    let start = at-facts .before .before .before .before .before in
+    let a = start .args in
     record {
       len = c .before .before .put-two .ensures .0;
       slot = refl;
-      image = c .before .before .before .before .before .before .store .ensures ∙ ap (λ (f : Facts). sets (a .image .now) (f .code) (a .code .now)) (c .before .before .before .before .before .before .before .facts .ensures);
+      image = at-store .store .ensures ∙ ap (λ (f : Facts). sets (a .image .now) (f .code) (a .code .now)) (at-facts .facts .ensures);
       out = c .before .before .put-two .ensures .1 ∙ over-pair (a .out .now) 0x90 0x00 (omega arith);
     }
 

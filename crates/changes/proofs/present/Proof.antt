@@ -39,26 +39,39 @@ present-requires c κs =
 alike : {A : Type 0} {x x′ y y′ z z′ w w′ : ℕ} → x ≡ x′ → y ≡ y′ → z ≡ z′ → w ≡ w′ → (g : ℕ → ℕ → ℕ → ℕ → A) → g x y z w ≡ g x′ y′ z′ w′
 alike p q r s g = cc
 
-numbers : {A : Type 0} (p : tie.After-present) (g : ℕ → ℕ → ℕ → ℕ → A) → let a = p .before .before .before .before .before .before .before .before .args in let f = facts (a .chip) in
-    g (p .before .before .before .before .facts .result .counter) (p .before .before .facts2 .result .full) (p .before .facts3 .result .code) (length (a .guess .now))
+numbers : {A : Type 0} (p : tie.After-present) (g : ℕ → ℕ → ℕ → ℕ → A) → let a =
+    p .before .before .before .before .before .before .before .before .args in let f = facts (a .chip) in
+    g (p .before .before .before .before .facts .result .counter) (p .before .before .facts2 .result .full) (p .before .facts3 .result .code)
+    (length (a .guess .now))
     ≡ g (f .counter) (f .full) (f .code) (f .digits)
 numbers p g =
-    alike (ap (λ (f : Facts). f .counter) (p .before .before .before .before .facts .ensures)) (ap (λ (f : Facts). f .full) (p .before .before .facts2 .ensures))
-    (ap (λ (f : Facts). f .code) (p .before .facts3 .ensures)) (p .before .before .before .before .before .before .before .before .pre .3) g
+    let at-facts = p .before .before .before .before in
+    let start = at-facts .before .before .before .before in
+    alike (ap (λ (f : Facts). f .counter) (at-facts .facts .ensures)) (ap (λ (f : Facts). f .full) (p .before .before .facts2 .ensures))
+    (ap (λ (f : Facts). f .code) (p .before .facts3 .ensures)) (start .pre .3) g
 
-after : (p : tie.After-present) → let a = p .before .before .before .before .before .before .before .before .args in p .present .last .0 ≡ afterCode (facts (a .chip)) (a .image .now) (a .guess .now)
+after : (p : tie.After-present) → let a =
+    p .before .before .before .before .before .before .before .before .args in p .present .last .0
+    ≡ afterCode (facts (a .chip)) (a .image .now) (a .guess .now)
 after p =
-    let a = p .before .before .before .before .before .before .before .before .args in
+    let start = p .before .before .before .before .before .before .before .before in
+    let a = start .args in
     p .present .ensures .1 ∙ numbers p (λ x y z w. presenting x y z w (a .image .now) (a .guess .now))
 
-right : (p : tie.After-present) → let a = p .before .before .before .before .before .before .before .before .args in rightCode (facts (a .chip)) (a .image .now) (a .guess .now) ≡ p .present .result
+right : (p : tie.After-present) → let a =
+    p .before .before .before .before .before .before .before .before .args in rightCode (facts (a .chip)) (a .image .now) (a .guess .now)
+    ≡ p .present .result
 right p =
-    let a = p .before .before .before .before .before .before .before .before .args in
+    let start = p .before .before .before .before .before .before .before .before in
+    let a = start .args in
     sym (p .present .ensures .0 ∙ numbers p (λ x y z w. accepts x y z w (a .image .now) (a .guess .now)))
 
 told : (p : tie.After-present) → let a = p .before .before .before .before .before .before .before .before .args in
-    byte (p .present .last .0) (p .before .before .before .before .facts .result .counter) ≡ byte (afterCode (facts (a .chip)) (a .image .now) (a .guess .now)) (facts (a .chip) .counter)
-told p = ap₂ byte (after p) (ap (λ (f : Facts). f .counter) (p .before .before .before .before .facts .ensures))
+    byte (p .present .last .0) (p .before .before .before .before .facts .result .counter)
+    ≡ byte (afterCode (facts (a .chip)) (a .image .now) (a .guess .now)) (facts (a .chip) .counter)
+told p =
+    let at-facts = p .before .before .before .before in
+    ap₂ byte (after p) (ap (λ (f : Facts). f .counter) (at-facts .facts .ensures))
 
 slice-read-put-two : tie.Need-slice-read-put-two
 slice-read-put-two c =

@@ -45,13 +45,18 @@ same-length-2 c = search needs
 returns : tie.Need-returns
 unfolding performed saidBy imageBy slotBy
 returns c =
-    let a = c .before .before .before .before .before .before .before .before .before .before .before .before .before .args in
+    let at-write = c .before .before .before .before .before .before in
+    let at-facts = at-write .before in
+    let at-wide = at-facts .before in
+    let start = at-wide .before .before .before .before .before in
+    let a = start .args in
     record {
       len = c .before .before .put-two .ensures .0;
       slot = refl;
       image =
-          c .before .before .before .before .before .before .write .ensures
-          ∙ ap₂ (λ (x y : ℕ). written x y (a .image .now) (a .at) (a .«data» .now)) (c .before .before .before .before .before .before .before .before .wide .ensures .0) (ap (λ (f : Facts). f .page) (c .before .before .before .before .before .before .before .facts .ensures));
+          at-write .write .ensures
+          ∙ ap₂ (λ (x y : ℕ). written x y (a .image .now) (a .at) (a .«data» .now)) (at-wide .wide .ensures .0)
+          (ap (λ (f : Facts). f .page) (at-facts .facts .ensures));
       out = c .before .before .put-two .ensures .1 ∙ over-pair (a .out .now) 0x90 0x00 (omega arith);
     }
 

@@ -48,12 +48,18 @@ part-perform-end c = search needs
 
 perform-requires : tie.Need-perform-requires
 perform-requires c κs =
-    let a = c .before .before .before .before .before .before .before .before .before .args in
+    let at-decide = c .before .before .before in
+    let at-shared-slice-known = at-decide .before .before .before .before in
+    let start = at-shared-slice-known .before .before in
+    let a = start .args in
     let f = facts (a .chip) in
     let d : List ℕ = a .apdu .now in
-    let fits : Fit f (body d) (c .before .before .before .decide .result) = subst⁻¹ (λ (o : Order). Fit f (body d) o) (c .before .before .before .decide .ensures) (order-fits f (a .slot) (a .image .now) d) in
-    let short : Short (c .before .before .before .decide .result) = subst⁻¹ Short (c .before .before .before .decide .ensures) (order-short f (a .slot) (a .image .now) d (omega (arith, c .before .before .before .before .before .before .before .shared-slice-known .given 4))) in
-    (omega arith, c .before .before .before .before .before .before .before .before .before .pre .1, c .before .before .before .before .before .before .before .before .before .pre .2, subst⁻¹ (λ (b : List ℕ). Fit f b (c .before .before .before .decide .result)) (tail-is 5 d) fits, short)
+    let fits : Fit f (body d) (at-decide .decide .result) =
+    subst⁻¹ (λ (o : Order). Fit f (body d) o) (at-decide .decide .ensures) (order-fits f (a .slot) (a .image .now) d) in
+    let short : Short (at-decide .decide .result) =
+    subst⁻¹ Short (at-decide .decide .ensures)
+    (order-short f (a .slot) (a .image .now) d (omega (arith, at-shared-slice-known .shared-slice-known .given 4))) in
+    (omega arith, start .pre .1, start .pre .2, subst⁻¹ (λ (b : List ℕ). Fit f b (at-decide .decide .result)) (tail-is 5 d) fits, short)
 
 same-length-2 : tie.Need-same-length-2
 same-length-2 c = search needs
@@ -64,15 +70,23 @@ same-length-3 c = search needs
 returns-2 : tie.Need-returns-2
 unfolding commanded performed
 returns-2 c =
-    let a = c .before .before .before .before .before .before .before .before .before .before .before .before .before .before .args in
+    let at-perform = c .before .before .before .before in
+    let at-decide = at-perform .before .before .before .before in
+    let at-shared-slice-known = at-decide .before .before .before .before in
+    let start = at-shared-slice-known .before .before in
+    let a = start .args in
     let f = facts (a .chip) in
     let d : List ℕ = a .apdu .now in
     let o : Order = order f (a .slot) (a .image .now) d in
-    let g : Does (performed f (a .slot) (a .image .now) (body d) o) (c .before .before .before .before .perform .result) (c .before .before .before .before .perform .last .1 .1 .1 .0) (a .out .now) (c .before .before .before .before .perform .last .1 .1 .1 .1 .1 .0) =
-    does-by f (a .slot) (a .image .now) (body d) (sym (c .before .before .before .before .before .before .before .before .decide .ensures))
-    (subst (λ (b : List ℕ). Does (performed f (a .slot) (a .image .now) b (c .before .before .before .before .before .before .before .before .decide .result)) (c .before .before .before .before .perform .result) (c .before .before .before .before .perform .last .1 .1 .1 .0) (a .out .now) (c .before .before .before .before .perform .last .1 .1 .1 .1 .1 .0)) (tail-is 5 d) (c .before .before .before .before .perform .ensures)) in
+    let g : Does (performed f (a .slot) (a .image .now) (body d) o) (at-perform .perform .result) (at-perform .perform .last .1 .1 .1 .0)
+    (a .out .now) (at-perform .perform .last .1 .1 .1 .1 .1 .0) =
+    does-by f (a .slot) (a .image .now) (body d) (sym (at-decide .decide .ensures))
+    (subst (λ (b : List ℕ). Does (performed f (a .slot) (a .image .now) b (at-decide .decide .result)) (at-perform .perform .result)
+    (at-perform .perform .last .1 .1 .1 .0) (a .out .now) (at-perform .perform .last .1 .1 .1 .1 .1 .0)) (tail-is 5 d)
+    (at-perform .perform .ensures)) in
     let short : length (saidBy f (a .slot) (a .image .now) (body d) o) ≤ 257 =
-    said-short (a .chip) (a .slot) (a .image .now) (body d) o (c .before .before .before .before .before .before .before .before .before .before .before .before .before .before .pre .1) (order-fits f (a .slot) (a .image .now) d) (order-short f (a .slot) (a .image .now) d (omega (arith, c .before .before .before .before .before .before .before .before .before .before .before .before .shared-slice-known .given 4))) in
+    said-short (a .chip) (a .slot) (a .image .now) (body d) o (start .pre .1) (order-fits f (a .slot) (a .image .now) d)
+    (order-short f (a .slot) (a .image .now) d (omega (arith, at-shared-slice-known .shared-slice-known .given 4))) in
     (g, omega (arith, g .len, short))
 
 pub command-spec : {M : Type 1} → statement M

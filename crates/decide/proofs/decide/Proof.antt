@@ -67,13 +67,18 @@ change-order-requires : tie.Need-change-order-requires
 change-order-requires c κs = search needs
 
 -- an arm: its handler's steps are those of the pseudo-APDU, INS being the arm's
-arm : (d : tie.After-byte-at) (i : Ins) (v : ℕ) {r : Order} → let a = d .before .before .before .before .before .before .before .before .args in v ≡ byte (a .apdu .now) 5 → insOf (byte (a .apdu .now) 1) ≡ i
-    → r ≡ steps (facts (a .chip)) (a .slot) (a .image .now) (length (a .apdu .now)) (d .before .before .before .place-of .result) (d .before .wide .result) v i
+arm : (d : tie.After-byte-at) (i : Ins) (v : ℕ) {r : Order} → let a =
+    d .before .before .before .before .before .before .before .before .args in v ≡ byte (a .apdu .now) 5 → insOf (byte (a .apdu .now) 1) ≡ i
+    → r ≡ steps (facts (a .chip)) (a .slot) (a .image .now) (length (a .apdu .now)) (d .before .before .before .place-of .result)
+    (d .before .wide .result) v i
     → r ≡ order (facts (a .chip)) (a .slot) (a .image .now) (a .apdu .now)
 arm d i v e k h =
-    let a = d .before .before .before .before .before .before .before .before .args in
-    order-at (facts (a .chip)) (a .slot) (a .image .now) (a .apdu .now) _ _ v i (omega arith) (d .before .before .before .before .if1 .left)
-    (d .before .before .before .place-of .ensures .0) (d .before .wide .ensures .0) e k h
+    let at-place-of = d .before .before .before in
+    let at-if1 = at-place-of .before in
+    let start = at-if1 .before .before .before .before in
+    let a = start .args in
+    order-at (facts (a .chip)) (a .slot) (a .image .now) (a .apdu .now) _ _ v i (omega arith) (at-if1 .if1 .left)
+    (at-place-of .place-of .ensures .0) (d .before .wide .ensures .0) e k h
 
 returns-2 : tie.Need-returns-2
 unfolding insOf _⇒_⁏_
@@ -112,13 +117,17 @@ unfolding insOf _⇒_⁏_
 returns-10 c = arm (c .before .before .before) Change _ refl (ap insOf (c .before .match .keys9)) (c .change-order .ensures _ _)
 
 -- any other INS
-none : (d : tie.After-byte-at) → let a = d .before .before .before .before .before .before .before .before .args in insOf (byte (a .apdu .now) 1) ≡ Other
+none : (d : tie.After-byte-at) → let a =
+    d .before .before .before .before .before .before .before .before .args in insOf (byte (a .apdu .now) 1) ≡ Other
     → Order.Refuse Status.Instruction ≡ order (facts (a .chip)) (a .slot) (a .image .now) (a .apdu .now)
 unfolding steps _⇒_⁏_
 none d o =
-    let a = d .before .before .before .before .before .before .before .before .args in
+    let at-if1 = d .before .before .before .before in
+    let start = at-if1 .before .before .before .before in
+    let a = start .args in
     let apdu = a .apdu .now in
-    order-at (facts (a .chip)) (a .slot) (a .image .now) apdu (place apdu) (p3 apdu) (byte apdu 5) Other (omega arith) (d .before .before .before .before .if1 .left) refl refl refl o refl
+    order-at (facts (a .chip)) (a .slot) (a .image .now) apdu (place apdu) (p3 apdu) (byte apdu 5) Other (omega arith)
+    (at-if1 .if1 .left) refl refl refl o refl
 
 returns-11 : tie.Need-returns-11
 unfolding insOf _⇒_⁏_

@@ -37,8 +37,11 @@ same-length-2 c = search needs
 returns : tie.Need-returns
 unfolding requestOf _⇒_⁏_
 returns c =
-    let a = c .before .before .before .before .before .before .before .before .before .before .args in
-    gives-is (ap (λ (r : Request). reply r (a .slot) (a .image .now) (a .msg .now)) (ap requestOf (c .before .before .before .before .before .match .keys1))) (c .before .before .power-on .ensures)
+    let at-match = c .before .before .before .before .before in
+    let start = at-match .before .before .before .before .before in
+    let a = start .args in
+    gives-is (ap (λ (r : Request). reply r (a .slot) (a .image .now) (a .msg .now)) (ap requestOf (at-match .match .keys1)))
+    (c .before .before .power-on .ensures)
 
 same-length-3 : tie.Need-same-length-3
 same-length-3 c = search needs
@@ -46,8 +49,11 @@ same-length-3 c = search needs
 returns-2 : tie.Need-returns-2
 unfolding requestOf _⇒_⁏_
 returns-2 c =
-    let a = c .before .before .before .before .before .before .before .before .before .args in
-    gives-is (ap (λ (r : Request). reply r (a .slot) (a .image .now) (a .msg .now)) (ap requestOf (c .before .before .before .before .match .keys2))) (c .before .before .power-off .ensures (a .image .now))
+    let at-match = c .before .before .before .before in
+    let start = at-match .before .before .before .before .before in
+    let a = start .args in
+    gives-is (ap (λ (r : Request). reply r (a .slot) (a .image .now) (a .msg .now)) (ap requestOf (at-match .match .keys2)))
+    (c .before .before .power-off .ensures (a .image .now))
 
 same-length-4 : tie.Need-same-length-4
 same-length-4 c = search needs
@@ -55,8 +61,11 @@ same-length-4 c = search needs
 returns-3 : tie.Need-returns-3
 unfolding requestOf _⇒_⁏_
 returns-3 c =
-    let a = c .before .before .before .before .before .before .before .before .before .args in
-    gives-is (ap (λ (r : Request). reply r (a .slot) (a .image .now) (a .msg .now)) (ap requestOf (c .before .before .before .before .match .keys3))) (c .before .before .slot-status .ensures (a .image .now))
+    let at-match = c .before .before .before .before in
+    let start = at-match .before .before .before .before .before in
+    let a = start .args in
+    gives-is (ap (λ (r : Request). reply r (a .slot) (a .image .now) (a .msg .now)) (ap requestOf (at-match .match .keys3)))
+    (c .before .before .slot-status .ensures (a .image .now))
 
 same-length-5 : tie.Need-same-length-5
 same-length-5 c = search needs
@@ -67,8 +76,12 @@ same-length-6 c = search needs
 returns-4 : tie.Need-returns-4
 unfolding requestOf _⇒_⁏_
 returns-4 c =
-    let a = c .before .before .before .before .before .before .before .before .before .before .before .before .args in
-    gives-is (ap (λ (r : Request). reply r (a .slot) (a .image .now) (a .msg .now)) (ap requestOf (c .before .before .before .before .before .before .before .match .keys4))) (c .before .before .before .before .transfer .ensures)
+    let at-transfer = c .before .before .before .before in
+    let at-match = at-transfer .before .before .before in
+    let start = at-match .before .before .before .before .before in
+    let a = start .args in
+    gives-is (ap (λ (r : Request). reply r (a .slot) (a .image .now) (a .msg .now)) (ap requestOf (at-match .match .keys4)))
+    (at-transfer .transfer .ensures)
 
 same-length-7 : tie.Need-same-length-7
 same-length-7 c = search needs
@@ -76,8 +89,12 @@ same-length-7 c = search needs
 returns-5 : tie.Need-returns-5
 unfolding requestOf _⇒_⁏_
 returns-5 c =
-    let a = c .before .before .before .before .before .before .before .before .before .args in
-    gives-is (ap (λ (r : Request). reply r (a .slot) (a .image .now) (a .msg .now)) (⊎-elim (λ w. ap requestOf (w .keys5)) (λ w. let r = w .rest in other-type _ (r .0 .0 .0 .0 .1) (r .0 .0 .0 .1) (r .0 .0 .1) (r .0 .1)) (c .before .before .before .before .match .came))) (c .before .before .unsupported .ensures (a .image .now))
+    let at-match = c .before .before .before .before in
+    let start = at-match .before .before .before .before .before in
+    let a = start .args in
+    gives-is (ap (λ (r : Request). reply r (a .slot) (a .image .now) (a .msg .now))
+    (⊎-elim (λ w. ap requestOf (w .keys5)) (λ w. let r = w .rest in other-type _ (r .0 .0 .0 .0 .1) (r .0 .0 .0 .1) (r .0 .0 .1) (r .0 .1))
+    (at-match .match .came))) (c .before .before .unsupported .ensures (a .image .now))
 
 pub handle-spec : {M : Type 1} → statement M
 handle-spec =

@@ -35,7 +35,14 @@ same-length c = search needs
 
 returns : tie.Need-returns
 unfolding requestOf _⇒_⁏_
-returns c = gives-failed Transfer (c .before .before .before .before .before .before .before .before .before .before .args .slot) (c .before .before .before .before .before .before .before .before .before .before .args .image .now) (c .before .before .before .before .before .before .before .before .before .before .args .msg .now) (c .before .before .before .before .before .before .fault-of .ensures) (c .before .before .before .before .before .before .before .before .before .before .args .answer .now) (sym (c .before .before .before .before .before .is-clear .ensures) ∙ not-true _ (c .before .before .before .before .if1 .taken)) (omega arith) (c .before .before .seal .ensures)
+returns c =
+    let at-if1 = c .before .before .before .before in
+    let at-is-clear = at-if1 .before in
+    let at-fault-of = at-is-clear .before in
+    let start = at-fault-of .before .before .before .before in
+    gives-failed Transfer (start .args .slot) (start .args .image .now) (start .args .msg .now) (at-fault-of .fault-of .ensures)
+    (start .args .answer .now) (sym (at-is-clear .is-clear .ensures) ∙ not-true _ (at-if1 .if1 .taken)) (omega arith)
+    (c .before .before .seal .ensures)
 
 enum-known-holds : tie.Need-enum-known-holds
 enum-known-holds c = search needs
@@ -51,7 +58,16 @@ same-length-2 c = search needs
 
 returns-2 : tie.Need-returns-2
 unfolding deed requestOf _⇒_⁏_
-returns-2 c = gives-quiet Transfer (c .before .before .before .before .before .before .before .before .before .before .before .before .args .slot) (c .before .before .before .before .before .before .before .before .before .before .before .before .args .image .now) (c .before .before .before .before .before .before .before .before .before .before .before .before .args .msg .now) (c .before .before .before .before .before .before .before .before .fault-of .ensures) (c .before .before .before .before .before .before .before .before .before .before .before .before .args .answer .now) (c .before .before .before .before .before .before .before .before .before .before .before .before .args .slot) (sym (c .before .before .before .before .before .before .before .is-clear .ensures) ∙ not-false _ (c .before .before .before .before .before .before .if1 .left)) (ap (λ (h : Holds). deed Transfer h (c .before .before .before .before .before .before .before .before .before .before .before .before .args .slot) (c .before .before .before .before .before .before .before .before .before .before .before .before .args .image .now) (c .before .before .before .before .before .before .before .before .before .before .before .before .args .msg .now)) (c .before .before .before .before .enum-told .given .1)) (omega arith) (c .before .before .seal2 .ensures)
+returns-2 c =
+    let at-enum-told = c .before .before .before .before in
+    let at-if1 = at-enum-told .before .before in
+    let at-is-clear = at-if1 .before in
+    let at-fault-of = at-is-clear .before in
+    let start = at-fault-of .before .before .before .before in
+    gives-quiet Transfer (start .args .slot) (start .args .image .now) (start .args .msg .now) (at-fault-of .fault-of .ensures)
+    (start .args .answer .now) (start .args .slot) (sym (at-is-clear .is-clear .ensures) ∙ not-false _ (at-if1 .if1 .left))
+    (ap (λ (h : Holds). deed Transfer h (start .args .slot) (start .args .image .now) (start .args .msg .now)) (at-enum-told .enum-told .given .1))
+    (omega arith) (c .before .before .seal2 .ensures)
 
 sub-command : tie.Need-sub-command
 sub-command c = search needs
@@ -73,9 +89,15 @@ part-command-end-2 c = search needs
 
 command-requires : tie.Need-command-requires
 command-requires c κs =
-    let a = c .before .before .before .before .before .before .before .before .before .before .before .before .args in
-    let e : imageIsCard (Holds.Card (c .before .before .before .before .holds .given .0 .0)) (a .image .now) ≡ true = subst (λ (h : Holds). imageIsCard h (a .image .now) ≡ true) (c .before .before .before .before .holds .given .1) (c .before .before .before .before .before .before .before .before .before .before .before .before .pre .2) in
-    (rw (tail-is 10 (a .answer .now)) (omega (arith, length-drop 10 (a .answer .now), c .before .before .before .before .before .before .before .before .before .before .before .before .pre .1)), card-parts _ (a .image .now) e .long, c .before .before .before .before .before .before .before .before .before .before .before .before .pre .3)
+    let at-holds = c .before .before .before .before in
+    let start = at-holds .before .before .before .before .before .before .before .before in
+    let a = start .args in
+    let e : imageIsCard (Holds.Card (at-holds .holds .given .0 .0)) (a .image .now) ≡ true =
+    subst (λ (h : Holds). imageIsCard h (a .image .now) ≡ true) (at-holds .holds .given .1) (start .pre .2) in (
+      rw (tail-is 10 (a .answer .now)) (omega (arith, length-drop 10 (a .answer .now), start .pre .1)),
+      card-parts _ (a .image .now) e .long,
+      start .pre .3,
+    )
 
 seal-requires-3 : tie.Need-seal-requires-3
 seal-requires-3 c κs = (search needs, search needs, c .before .before .before .before .before .before .command .ensures .1)
@@ -89,14 +111,26 @@ same-length-4 c = search needs
 returns-3 : tie.Need-returns-3
 unfolding deed requestOf _⇒_⁏_
 returns-3 c =
-    let a = c .before .before .before .before .before .before .before .before .before .before .before .before .before .before .before .before .before .before .before .before .before .before .args in
-    let f = facts (c .before .before .before .before .before .before .before .before .before .before .before .before .before .before .holds .given .0 .0) in
+    let at-command = c .before .before .before .before .before .before .before .before .before in
+    let at-holds = at-command .before .before .before .before .before in
+    let at-if1 = at-holds .before .before in
+    let at-is-clear = at-if1 .before in
+    let at-fault-of = at-is-clear .before in
+    let start = at-fault-of .before .before .before .before in
+    let a = start .args in
+    let f = facts (at-holds .holds .given .0 .0) in
     let im : List ℕ = a .image .now in
     let m : List ℕ = a .msg .now in
-    let g : Does (commanded f (a .slot) im (apdu m)) (c .before .before .before .before .before .before .before .before .before .command .result) (c .before .before .before .before .before .before .before .before .before .command .last .1 .1 .0) (take (length (a .answer .now) - 10) (drop 10 (a .answer .now))) (c .before .before .before .before .before .before .before .before .before .command .last .1 .1 .1 .1 .0) =
-    subst (λ (b : List ℕ). Does (commanded f (a .slot) im b) (c .before .before .before .before .before .before .before .before .before .command .result) (c .before .before .before .before .before .before .before .before .before .command .last .1 .1 .0) (take (length (a .answer .now) - 10) (drop 10 (a .answer .now))) (c .before .before .before .before .before .before .before .before .before .command .last .1 .1 .1 .1 .0)) (tail-is 10 m) (c .before .before .before .before .before .before .before .before .before .command .ensures .0) in
-    gives-done Transfer (a .slot) im m (c .before .before .before .before .before .before .before .before .before .before .before .before .before .before .before .before .before .before .fault-of .ensures) (a .answer .now) (commanded f (a .slot) im (apdu m)) (sym (c .before .before .before .before .before .before .before .before .before .before .before .before .before .before .before .before .before .is-clear .ensures) ∙ not-false _ (c .before .before .before .before .before .before .before .before .before .before .before .before .before .before .before .before .if1 .left)) (ap (λ (h : Holds). deed Transfer h (a .slot) im m) (c .before .before .before .before .before .before .before .before .before .before .before .before .before .before .holds .given .1))
-    (g .len) (omega (arith, c .before .before .before .before .before .before .before .before .before .before .before .before .before .before .before .before .before .before .before .before .before .before .pre .1)) (lent-tail 10 (a .answer .now) (commanded f (a .slot) im (apdu m) .said) (g .out)) (g .image) (sealed-slot (g .slot) (c .before .before .seal3 .ensures))
+    let g : Does (commanded f (a .slot) im (apdu m)) (at-command .command .result) (at-command .command .last .1 .1 .0)
+    (take (length (a .answer .now) - 10) (drop 10 (a .answer .now))) (at-command .command .last .1 .1 .1 .1 .0) =
+    subst (λ (b : List ℕ). Does (commanded f (a .slot) im b) (at-command .command .result) (at-command .command .last .1 .1 .0)
+    (take (length (a .answer .now) - 10) (drop 10 (a .answer .now))) (at-command .command .last .1 .1 .1 .1 .0)) (tail-is 10 m)
+    (at-command .command .ensures .0) in
+    gives-done Transfer (a .slot) im m (at-fault-of .fault-of .ensures) (a .answer .now) (commanded f (a .slot) im (apdu m))
+    (sym (at-is-clear .is-clear .ensures) ∙ not-false _ (at-if1 .if1 .left))
+    (ap (λ (h : Holds). deed Transfer h (a .slot) im m) (at-holds .holds .given .1))
+    (g .len) (omega (arith, start .pre .1)) (lent-tail 10 (a .answer .now) (commanded f (a .slot) im (apdu m) .said) (g .out)) (g .image)
+    (sealed-slot (g .slot) (c .before .before .seal3 .ensures))
 
 pub transfer-spec : {M : Type 1} → statement M
 transfer-spec =

@@ -17,7 +17,10 @@ same-length c = search needs
 
 returns : tie.Need-returns
 unfolding faultOf
-returns c = λ image. gives-failed Unsupported (c .before .before .before .before .before .before .args .slot) image (c .before .before .before .before .before .before .args .msg .now) {f = Fault.Unknown} (taken _ refl) (c .before .before .before .before .before .before .args .answer .now) refl (omega arith) (c .before .before .seal .ensures)
+returns c =
+    let start = c .before .before .before .before .before .before in
+    λ image. gives-failed Unsupported (start .args .slot) image (start .args .msg .now) {f = Fault.Unknown} (taken _ refl)
+    (start .args .answer .now) refl (omega arith) (c .before .before .seal .ensures)
 
 pub unsupported-spec : {M : Type 1} → statement M
 unsupported-spec = tie.close (tie.spec seal-requires same-length returns)

@@ -13,14 +13,24 @@ on1 c = free1 (sym (c .before .is-supported .ensures) ∙ not-false _ (c .if1 .l
 on2 : (c : tie.Else2) → let a = c .before .before .before .before .before .args in Free2 (requestOf (a .message-type)) (a .slot) (a .msg .now)
 on2 c = free2 (on1 (c .before .before)) (sym (c .before .four-at .ensures) ∙ c .if2 .left)
 
-on-type : (c : tie.Else3) → let a = c .before .before .before .before .before .before .before .args in FreeType (requestOf (a .message-type)) (a .slot) (a .msg .now)
-on-type c = free-type (on2 (c .before .before)) (sym (c .before .data-fits .ensures ∙ ap (dataFits (requestOf (c .before .before .before .before .before .before .before .args .message-type))) (c .before .before .before .four-at .ensures)) ∙ not-false _ (c .if3 .left))
+on-type : (c : tie.Else3) → let a =
+    c .before .before .before .before .before .before .before .args in FreeType (requestOf (a .message-type)) (a .slot) (a .msg .now)
+on-type c =
+    let at-four-at = c .before .before .before in
+    let start = at-four-at .before .before .before .before in
+    free-type (on2 (c .before .before)) (sym
+    (c .before .data-fits .ensures ∙ ap (dataFits (requestOf (start .args .message-type))) (at-four-at .four-at .ensures))
+    ∙ not-false _ (c .if3 .left))
 
 on3 : (c : tie.Else4) → let a = c .before .before .before .before .before .before .before .before .before .args in Free3 (requestOf (a .message-type)) (a .slot) (a .msg .now)
 on3 c = free3 (on-type (c .before .before)) (c .if4 .left)
 
-on4 : (c : tie.Else5) → let a = c .before .before .before .before .before .before .before .before .before .before .before .before .args in Free4 (requestOf (a .message-type)) (a .slot) (a .msg .now)
-on4 c = free4 (on3 (c .before .before .before)) (sym (c .before .is-clear .ensures ∙ ap isClear (c .before .before .header-fault .ensures)) ∙ not-false _ (c .if5 .left))
+on4 : (c : tie.Else5) → let a =
+    c .before .before .before .before .before .before .before .before .before .before .before .before .args in Free4 (requestOf (a .message-type))
+    (a .slot) (a .msg .now)
+on4 c =
+    free4 (on3 (c .before .before .before))
+    (sym (c .before .is-clear .ensures ∙ ap isClear (c .before .before .header-fault .ensures)) ∙ not-false _ (c .if5 .left))
 
 is-supported-requires : tie.Need-is-supported-requires
 is-supported-requires c κs = search needs
@@ -41,7 +51,12 @@ data-fits-requires : tie.Need-data-fits-requires
 data-fits-requires c κs = search needs
 
 returns-3 : tie.Need-returns-3
-returns-3 c = fault-type (on2 (c .before .before)) (sym (c .before .data-fits .ensures ∙ ap (dataFits (requestOf (c .before .before .before .before .before .before .before .args .message-type))) (c .before .before .before .four-at .ensures)) ∙ not-true _ (c .if3 .taken))
+returns-3 c =
+    let at-four-at = c .before .before .before in
+    let start = at-four-at .before .before .before .before in
+    fault-type (on2 (c .before .before))
+    (sym (c .before .data-fits .ensures ∙ ap (dataFits (requestOf (start .args .message-type))) (at-four-at .four-at .ensures))
+    ∙ not-true _ (c .if3 .taken))
 
 shared-slice-read-if4 : tie.Need-shared-slice-read-if4
 shared-slice-read-if4 c = search needs

@@ -38,16 +38,26 @@ same-length c = search needs
 
 returns : tie.Need-returns
 returns c =
-    let a = c .before .before .before .before .before .before .before .before .before .before .before .before .args in
+    let at-last-of = c .before .before .before in
+    let at-error-of = at-last-of .before in
+    let at-status-of = at-error-of .before in
+    let at-state-of = at-status-of .before .before .before in
+    let start = at-state-of .before .before .before .before in
+    let a = start .args in
     let m : List ℕ = a .msg .now in
     let st : ℕ = cardState (bSlot m) (a .slot) in
-    let status : c .before .before .before .before .before .status-of .result ≡ bStatus (a .fault) st = c .before .before .before .before .before .status-of .ensures ∙ ap (bStatus (a .fault)) (c .before .before .before .before .before .before .before .before .state-of .ensures .0) in
-    let last : c .before .before .before .last-of .result ≡ byte9 (a .answer-type) st = c .before .before .before .last-of .ensures ∙ ap (byte9 (a .answer-type)) (c .before .before .before .before .before .before .before .before .state-of .ensures .0) in
+    let status : at-status-of .status-of .result ≡ bStatus (a .fault) st =
+    at-status-of .status-of .ensures ∙ ap (bStatus (a .fault)) (at-state-of .state-of .ensures .0) in
+    let last : at-last-of .last-of .result ≡ byte9 (a .answer-type) st =
+    at-last-of .last-of .ensures ∙ ap (byte9 (a .answer-type)) (at-state-of .state-of .ensures .0) in
     let hd : ℕ → ℕ → ℕ → List ℕ = λ x y z. over (header (a .answer-type) (a .len) (bSlot m) (bSeq m) x y z) (a .answer .now) in
     record {
       verdict = refl;
       slot = refl;
-      buffer = c .before .before .put-header .ensures ∙ ap (λ (x : ℕ). hd x (c .before .before .before .before .error-of .result) (c .before .before .before .last-of .result)) status ∙ ap (λ (y : ℕ). hd (bStatus (a .fault) st) y (c .before .before .before .last-of .result)) (c .before .before .before .before .error-of .ensures) ∙ ap (hd (bStatus (a .fault) st) (bError (a .fault))) last;
+      buffer =
+          c .before .before .put-header .ensures ∙ ap (λ (x : ℕ). hd x (at-error-of .error-of .result) (at-last-of .last-of .result)) status
+          ∙ ap (λ (y : ℕ). hd (bStatus (a .fault) st) y (at-last-of .last-of .result)) (at-error-of .error-of .ensures)
+          ∙ ap (hd (bStatus (a .fault) st) (bError (a .fault))) last;
     }
 
 pub seal-spec : {M : Type 1} → statement M

@@ -22,11 +22,21 @@ returns-2 c = (taken _ (sym (or-passed (ap not (eq-eqb _ 0 (c .before .before .i
 
 returns-3 : tie.Need-returns-3
 unfolding cardState
-returns-3 c = (passed _ (sym (or-passed (ap not (eq-eqb _ 0 (c .before .before .before .if1 .left))) (sym (ap not (sym (c .before .before .has-card .ensures)) ∙ c .before .if2 .left)))) (taken _ (c .if3 .taken)), omega arith)
+returns-3 c =
+    let at-if1 = c .before .before .before in (
+      passed _ (sym (or-passed (ap not (eq-eqb _ 0 (at-if1 .if1 .left)))
+          (sym (ap not (sym (c .before .before .has-card .ensures)) ∙ c .before .if2 .left)))) (taken _ (c .if3 .taken)),
+      omega arith,
+    )
 
 returns-4 : tie.Need-returns-4
 unfolding cardState
-returns-4 c = (passed _ (sym (or-passed (ap not (eq-eqb _ 0 (c .before .before .before .if1 .left))) (sym (ap not (sym (c .before .before .has-card .ensures)) ∙ c .before .if2 .left)))) (passed _ (c .if3 .left) refl), omega arith)
+returns-4 c =
+    let at-if1 = c .before .before .before in (
+      passed _ (sym (or-passed (ap not (eq-eqb _ 0 (at-if1 .if1 .left)))
+          (sym (ap not (sym (c .before .before .has-card .ensures)) ∙ c .before .if2 .left)))) (passed _ (c .if3 .left) refl),
+      omega arith,
+    )
 
 pub state-of-spec : {M : Type 1} → statement M
 state-of-spec = tie.close (tie.spec returns has-card-requires returns-2 returns-3 returns-4)

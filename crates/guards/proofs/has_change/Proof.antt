@@ -20,7 +20,8 @@ facts-requires-2 c κs = search needs
 returns-2 : tie.Need-returns-2
 returns-2 c =
     let on = c .before .before in
-    and-holds (sym (ap (λ (f : Facts). f .coded) (on .before .before .facts .ensures)) ∙ not-false _ (on .if1 .left)) (ap (λ (f : Facts). f .selects is 0x06) (c .before .facts2 .ensures))
+    and-holds (sym (ap (λ (f : Facts). f .coded) (on .before .before .facts .ensures)) ∙ not-false _ (on .if1 .left))
+    (ap (λ (f : Facts). f .selects is 0x06) (c .before .facts2 .ensures))
 
 pub has-change-spec : {M : Type 1} → statement M
 has-change-spec =

@@ -24,10 +24,15 @@ on6 c = past6 (on5 (c .before)) (c .if3 .left)
 onP3 : (c : tie.Else4) → let a = c .before .before .before .before .before .before .before .args in PastP3 (facts (a .chip)) (a .slot) (a .n) (a .at) (a .p) Protect
 onP3 c = pastP3 (on6 (c .before)) (le-leb 1 _ (c .if4 .left))
 
-on8 : (c : tie.Else5) (v : ℕ) → let a = c .before .before .before .before .before .before .before .before .before .before .args in Past8 (facts (a .chip)) (a .slot) (a .n) (a .at) (a .p) Protect v
+on8 : (c : tie.Else5) (v : ℕ) → let a =
+    c .before .before .before .before .before .before .before .before .before .before .args in Past8 (facts (a .chip)) (a .slot) (a .n) (a .at)
+    (a .p) Protect v
 on8 c v =
-    let a = c .before .before .before .before .before .before .before .before .before .before .args in
-    past8 (past7 (onP3 (c .before .before .before)) (le-leb (a .at + a .p) (facts (a .chip) .reach) (omega (arith, c .if5 .left, ap (λ (f : Facts). f .reach) (c .before .before .facts2 .ensures))))) v refl
+    let start = c .before .before .before .before .before .before .before .before .before .before in
+    let a = start .args in
+    past8 (past7 (onP3 (c .before .before .before))
+    (le-leb (a .at + a .p) (facts (a .chip) .reach) (omega (arith, c .if5 .left, ap (λ (f : Facts). f .reach) (c .before .before .facts2 .ensures)))))
+    v refl
 
 returns : tie.Need-returns
 returns c im v = stop4 (past3 refl) refl (c .if1 .taken) im v
@@ -55,8 +60,11 @@ add-if5 c = search needs
 
 returns-5 : tie.Need-returns-5
 returns-5 c im v =
-    let a = c .before .before .before .before .before .before .before .before .before .before .args in
-    stop7 (onP3 (c .before .before .before)) (lt-leb (a .at + a .p) (facts (a .chip) .reach) (omega (arith, c .if5 .taken, ap (λ (f : Facts). f .reach) (c .before .before .facts2 .ensures)))) im v
+    let start = c .before .before .before .before .before .before .before .before .before .before in
+    let a = start .args in
+    stop7 (onP3 (c .before .before .before))
+    (lt-leb (a .at + a .p) (facts (a .chip) .reach) (omega (arith, c .if5 .taken, ap (λ (f : Facts). f .reach) (c .before .before .facts2 .ensures))))
+    im v
 
 locked-requires : tie.Need-locked-requires
 locked-requires c κs = search needs

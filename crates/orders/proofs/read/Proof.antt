@@ -39,15 +39,20 @@ same-length c = search needs
 returns : tie.Need-returns
 unfolding saidBy imageBy slotBy
 returns c b =
-    let a = c .before .before .before .before .before .before .before .before .before .before .before .before .args in
+    let at-read-shown = c .before .before .before .before .before .before in
+    let at-facts2 = at-read-shown .before .before in
+    let at-facts = at-facts2 .before in
+    let start = at-facts .before .before .before in
+    let a = start .args in
     let f = facts (a .chip) in
     let d : List ℕ = bytesRead (f .code) (f .digits) (a .slot .«open») (a .image .now) (a .at) (a .n) in
     let long : length d ≡ a .n = length-bytesRead (f .code) (f .digits) (a .slot .«open») (a .image .now) (a .at) (a .n) (omega arith) in
-    let code = c .before .before .before .before .before .before .before .before .before .facts .ensures in
-    let digits = c .before .before .before .before .before .before .before .before .facts2 .ensures in
-    let shown : c .before .before .before .before .before .before .read-shown .last .1 .1 .1 .1 .1 .1 .0 ≡ over d (a .out .now) =
-    c .before .before .before .before .before .before .read-shown .ensures
-    ∙ ap (λ (x : Facts). over (bytesRead (x .code) (c .before .before .before .before .before .before .before .before .facts2 .result .digits) (a .slot .«open») (a .image .now) (a .at) (a .n)) (a .out .now)) code
+    let code = at-facts .facts .ensures in
+    let digits = at-facts2 .facts2 .ensures in
+    let shown : at-read-shown .read-shown .last .1 .1 .1 .1 .1 .1 .0 ≡ over d (a .out .now) =
+    at-read-shown .read-shown .ensures
+    ∙ ap (λ (x : Facts). over (bytesRead (x .code) (at-facts2 .facts2 .result .digits) (a .slot .«open») (a .image .now) (a .at) (a .n))
+    (a .out .now)) code
     ∙ ap (λ (x : Facts). over (bytesRead (f .code) (x .digits) (a .slot .«open») (a .image .now) (a .at) (a .n)) (a .out .now)) digits in
     does-tell f (a .slot) (a .image .now) b (Order.Read (a .at) (a .n)) d (a .n) refl refl refl long (omega arith) shown
     (c .before .before .put-two .ensures .0) refl (c .before .before .put-two .ensures .1)

@@ -38,14 +38,19 @@ same-length c = search needs
 returns : tie.Need-returns
 unfolding saidBy imageBy slotBy
 returns c b =
-    let a = c .before .before .before .before .before .before .before .before .before .before .before .before .args in
+    let at-read-bits = c .before .before .before .before .before .before in
+    let at-facts2 = at-read-bits .before .before in
+    let at-facts = at-facts2 .before in
+    let start = at-facts .before .before .before in
+    let a = start .args in
     let f = facts (a .chip) in
     let d : List ℕ = packedBytes (f .bits) (f .covered) (a .image .now) (a .at) (a .n) in
     let long : length d ≡ a .n = length-packedBytes (f .bits) (f .covered) (a .image .now) (a .at) (a .n) in
-    let told : c .before .before .before .before .before .before .read-bits .last .1 .1 .1 .1 .1 .0 ≡ over d (a .out .now) =
-    c .before .before .before .before .before .before .read-bits .ensures
-    ∙ ap (λ (x : Facts). over (packedBytes (x .bits) (c .before .before .before .before .before .before .before .before .facts2 .result .covered) (a .image .now) (a .at) (a .n)) (a .out .now)) (c .before .before .before .before .before .before .before .before .before .facts .ensures)
-    ∙ ap (λ (x : Facts). over (packedBytes (f .bits) (x .covered) (a .image .now) (a .at) (a .n)) (a .out .now)) (c .before .before .before .before .before .before .before .before .facts2 .ensures) in
+    let told : at-read-bits .read-bits .last .1 .1 .1 .1 .1 .0 ≡ over d (a .out .now) =
+    at-read-bits .read-bits .ensures
+    ∙ ap (λ (x : Facts). over (packedBytes (x .bits) (at-facts2 .facts2 .result .covered) (a .image .now) (a .at) (a .n)) (a .out .now))
+    (at-facts .facts .ensures)
+    ∙ ap (λ (x : Facts). over (packedBytes (f .bits) (x .covered) (a .image .now) (a .at) (a .n)) (a .out .now)) (at-facts2 .facts2 .ensures) in
     does-tell f (a .slot) (a .image .now) b (Order.Bits (a .at) (a .n)) d (a .n) refl refl refl long (omega arith) told
     (c .before .before .put-two .ensures .0) refl (c .before .before .put-two .ensures .1)
 

@@ -31,12 +31,16 @@ same-length c = search needs
 returns : tie.Need-returns
 unfolding saidBy imageBy slotBy
 returns c b =
-    let a = c .before .before .before .before .before .before .before .before .before .before .before .args in
+    let at-read-counter = c .before .before .before .before .before .before in
+    let at-facts = at-read-counter .before .before in
+    let start = at-facts .before .before .before in
+    let a = start .args in
     let f = facts (a .chip) in
     let d : List ℕ = counterRead (f .counter) (a .image .now) (a .n) in
     let long : length d ≡ a .n = length-counterRead (f .counter) (a .image .now) (a .n) (omega arith) in
-    let told : c .before .before .before .before .before .before .read-counter .last .1 .1 .1 .0 ≡ over d (a .out .now) =
-    c .before .before .before .before .before .before .read-counter .ensures ∙ ap (λ (x : Facts). over (counterRead (x .counter) (a .image .now) (a .n)) (a .out .now)) (c .before .before .before .before .before .before .before .before .facts .ensures) in
+    let told : at-read-counter .read-counter .last .1 .1 .1 .0 ≡ over d (a .out .now) =
+    at-read-counter .read-counter .ensures
+    ∙ ap (λ (x : Facts). over (counterRead (x .counter) (a .image .now) (a .n)) (a .out .now)) (at-facts .facts .ensures) in
     does-tell f (a .slot) (a .image .now) b (Order.Counter (a .n)) d (a .n) refl refl refl long (omega arith) told
     (c .before .before .put-two .ensures .0) refl (c .before .before .put-two .ensures .1)
 

@@ -23,13 +23,17 @@ same-length c = search needs
 returns : tie.Need-returns
 unfolding performed saidBy imageBy slotBy
 returns c =
+    let at-word-of = c .before .before .before .before in
+    let start = at-word-of .before .before in
     λ f image b.
-    let w = c .before .before .before .before .word-of in
+    let w = at-word-of .word-of in
     record {
       len = c .before .before .put-two .ensures .0 ∙ sym (ap length (w .ensures));
       slot = refl;
       image = refl;
-      out = c .before .before .put-two .ensures .1 ∙ over-pair (c .before .before .before .before .before .before .args .out .now) (w .result .high) (w .result .low) (omega arith) ∙ ap (λ (l : List ℕ). over l (c .before .before .before .before .before .before .args .out .now)) (sym (w .ensures));
+      out =
+          c .before .before .put-two .ensures .1 ∙ over-pair (start .args .out .now) (w .result .high) (w .result .low) (omega arith)
+          ∙ ap (λ (l : List ℕ). over l (start .args .out .now)) (sym (w .ensures));
     }
 
 pub refuse-spec : {M : Type 1} → statement M

@@ -27,9 +27,14 @@ same-length c = search needs
 returns : tie.Need-returns
 unfolding requestOf _⇒_⁏_
 returns c image =
-    let a = c .before .before .before .before .before .before .before .before .before .args in
-    let failed = sym (c .before .before .before .before .before .is-clear .ensures) ∙ not-true _ (c .before .before .before .before .if1 .taken) in
-    gives-failed PowerOff (a .slot) image (a .msg .now) (c .before .before .before .before .before .before .fault-of .ensures) (a .answer .now) failed (omega arith) (c .before .before .seal .ensures)
+    let at-if1 = c .before .before .before .before in
+    let at-is-clear = at-if1 .before in
+    let at-fault-of = at-is-clear .before in
+    let start = at-fault-of .before .before .before in
+    let a = start .args in
+    let failed = sym (at-is-clear .is-clear .ensures) ∙ not-true _ (at-if1 .if1 .taken) in
+    gives-failed PowerOff (a .slot) image (a .msg .now) (at-fault-of .fault-of .ensures) (a .answer .now) failed (omega arith)
+    (c .before .before .seal .ensures)
 
 power-requires : tie.Need-power-requires
 power-requires c κs = search needs
@@ -43,10 +48,16 @@ same-length-2 c = search needs
 returns-2 : tie.Need-returns-2
 unfolding deed requestOf _⇒_⁏_
 returns-2 c image =
-    let a = c .before .before .before .before .before .before .before .before .before .before .args in
-    let clear = sym (c .before .before .before .before .before .before .is-clear .ensures) ∙ not-false _ (c .before .before .before .before .before .if1 .left) in
-    let sealed = sealed-slot (c .before .before .before .before .power .ensures) (c .before .before .seal2 .ensures) in
-    gives-quiet PowerOff (a .slot) image (a .msg .now) (c .before .before .before .before .before .before .before .fault-of .ensures) (a .answer .now) (powered false (a .slot)) clear refl (omega arith) sealed
+    let at-power = c .before .before .before .before in
+    let at-if1 = at-power .before in
+    let at-is-clear = at-if1 .before in
+    let at-fault-of = at-is-clear .before in
+    let start = at-fault-of .before .before .before in
+    let a = start .args in
+    let clear = sym (at-is-clear .is-clear .ensures) ∙ not-false _ (at-if1 .if1 .left) in
+    let sealed = sealed-slot (at-power .power .ensures) (c .before .before .seal2 .ensures) in
+    gives-quiet PowerOff (a .slot) image (a .msg .now) (at-fault-of .fault-of .ensures) (a .answer .now) (powered false (a .slot)) clear refl
+    (omega arith) sealed
 
 pub power-off-spec : {M : Type 1} → statement M
 power-off-spec =

@@ -36,9 +36,14 @@ same-length c = search needs
 returns : tie.Need-returns
 unfolding requestOf _⇒_⁏_
 returns c =
-    let a = c .before .before .before .before .before .before .before .before .before .before .args in
-    let failed = sym (c .before .before .before .before .before .is-clear .ensures) ∙ not-true _ (c .before .before .before .before .if1 .taken) in
-    gives-failed PowerOn (a .slot) (a .image .now) (a .msg .now) (c .before .before .before .before .before .before .fault-of .ensures) (a .answer .now) failed (omega arith) (c .before .before .seal .ensures)
+    let at-if1 = c .before .before .before .before in
+    let at-is-clear = at-if1 .before in
+    let at-fault-of = at-is-clear .before in
+    let start = at-fault-of .before .before .before .before in
+    let a = start .args in
+    let failed = sym (at-is-clear .is-clear .ensures) ∙ not-true _ (at-if1 .if1 .taken) in
+    gives-failed PowerOn (a .slot) (a .image .now) (a .msg .now) (at-fault-of .fault-of .ensures) (a .answer .now) failed (omega arith)
+    (c .before .before .seal .ensures)
 
 enum-known-holds : tie.Need-enum-known-holds
 enum-known-holds c = search needs
@@ -55,10 +60,16 @@ same-length-2 c = search needs
 returns-2 : tie.Need-returns-2
 unfolding deed requestOf _⇒_⁏_
 returns-2 c =
-    let a = c .before .before .before .before .before .before .before .before .before .before .before .before .args in
-    let clear = sym (c .before .before .before .before .before .before .before .is-clear .ensures) ∙ not-false _ (c .before .before .before .before .before .before .if1 .left) in
-    let none = ap (λ (h : Holds). deed PowerOn h (a .slot) (a .image .now) (a .msg .now)) (c .before .before .before .before .enum-told .given .1) in
-    gives-quiet PowerOn (a .slot) (a .image .now) (a .msg .now) (c .before .before .before .before .before .before .before .before .fault-of .ensures) (a .answer .now) (a .slot) clear none (omega arith) (c .before .before .seal2 .ensures)
+    let at-enum-told = c .before .before .before .before in
+    let at-if1 = at-enum-told .before .before in
+    let at-is-clear = at-if1 .before in
+    let at-fault-of = at-is-clear .before in
+    let start = at-fault-of .before .before .before .before in
+    let a = start .args in
+    let clear = sym (at-is-clear .is-clear .ensures) ∙ not-false _ (at-if1 .if1 .left) in
+    let none = ap (λ (h : Holds). deed PowerOn h (a .slot) (a .image .now) (a .msg .now)) (at-enum-told .enum-told .given .1) in
+    gives-quiet PowerOn (a .slot) (a .image .now) (a .msg .now) (at-fault-of .fault-of .ensures) (a .answer .now) (a .slot) clear none (omega arith)
+    (c .before .before .seal2 .ensures)
 
 sub-answer-to-reset : tie.Need-sub-answer-to-reset
 sub-answer-to-reset c = search needs
@@ -89,17 +100,26 @@ same-length-3 c = search needs
 returns-3 : tie.Need-returns-3
 unfolding deed requestOf _⇒_⁏_
 returns-3 c =
-    let start = c .before .before .before .before .before .before .before .before .before .before .before .before .before .before .before .before .before .before in
+    let at-power = c .before .before .before .before in
+    let at-answer-to-reset = at-power .before .before .before in
+    let at-holds = at-answer-to-reset .before .before .before in
+    let at-if1 = at-holds .before .before in
+    let at-is-clear = at-if1 .before in
+    let at-fault-of = at-is-clear .before in
+    let at-before = at-fault-of .before .before .before in
+    let start =
+    c .before .before .before .before .before .before .before .before .before .before .before .before .before .before .before .before .before .before in
     let a = start .args in
-    let holds = c .before .before .before .before .before .before .before .before .before .before .holds .given in
+    let holds = at-holds .holds .given in
     let f = facts (holds .0 .0) in
     let im : List ℕ = a .image .now in
     let d : Deed = record { said = reset f im; slot = powered true (a .slot); image = im } in
-    let clear = sym (c .before .before .before .before .before .before .before .before .before .before .before .before .before .is-clear .ensures) ∙ not-false _ (c .before .before .before .before .before .before .before .before .before .before .before .before .if1 .left) in
+    let clear = sym (at-is-clear .is-clear .ensures) ∙ not-false _ (at-if1 .if1 .left) in
     let does = ap (λ (h : Holds). deed PowerOn h (a .slot) im (a .msg .now)) (holds .1) in
-    let told = c .before .before .before .before .before .before .before .answer-to-reset .ensures in
-    gives-done PowerOn (a .slot) im (a .msg .now) (c .before .before .before .before .before .before .before .before .before .before .before .before .before .before .fault-of .ensures) (a .answer .now) d clear does (told .0) (omega (arith, start .pre .1))
-    (lent-tail 10 (a .answer .now) (reset f im) (told .1)) refl (sealed-slot (c .before .before .before .before .power .ensures) (c .before .before .seal3 .ensures))
+    let told = at-answer-to-reset .answer-to-reset .ensures in
+    gives-done PowerOn (a .slot) im (a .msg .now) (at-fault-of .fault-of .ensures) (a .answer .now) d clear does (told .0)
+    (omega (arith, start .pre .1))
+    (lent-tail 10 (a .answer .now) (reset f im) (told .1)) refl (sealed-slot (at-power .power .ensures) (c .before .before .seal3 .ensures))
 
 pub power-on-spec : {M : Type 1} → statement M
 power-on-spec =

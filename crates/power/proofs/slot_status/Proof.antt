@@ -21,8 +21,11 @@ same-length c = search needs
 returns : tie.Need-returns
 unfolding deed requestOf _⇒_⁏_
 returns c image =
-    let a = c .before .before .before .before .before .before .before .args in
-    gives-idle SlotStatus (a .slot) image (a .msg .now) (c .before .before .before .before .fault-of .ensures) (a .answer .now) refl (omega arith) (c .before .before .seal .ensures)
+    let at-fault-of = c .before .before .before .before in
+    let start = at-fault-of .before .before .before in
+    let a = start .args in
+    gives-idle SlotStatus (a .slot) image (a .msg .now) (at-fault-of .fault-of .ensures) (a .answer .now) refl (omega arith)
+    (c .before .before .seal .ensures)
 
 pub slot-status-spec : {M : Type 1} → statement M
 slot-status-spec = tie.close (tie.spec fault-of-requires seal-requires same-length returns)

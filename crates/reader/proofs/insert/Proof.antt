@@ -21,7 +21,10 @@ turn-down-requires c κs = search needs
 
 returns : tie.Need-returns
 unfolding insertion
-returns c = gives-is (first _ _ (sym (c .before .before .has-card .ensures) ∙ c .before .if1 .taken)) (gives-down Refusal.Occupied (c .before .before .before .before .args .slot) (c .before .before .before .before .args .image .now) [] (c .turn-down .ensures .0) (c .turn-down .ensures .1))
+returns c =
+    let start = c .before .before .before .before in
+    gives-is (first _ _ (sym (c .before .before .has-card .ensures) ∙ c .before .if1 .taken))
+    (gives-down Refusal.Occupied (start .args .slot) (start .args .image .now) [] (c .turn-down .ensures .0) (c .turn-down .ensures .1))
 
 chip-of-requires : tie.Need-chip-of-requires
 chip-of-requires c κs = search needs
@@ -38,9 +41,14 @@ turn-down-requires-2 c κs = search needs
 returns-2 : tie.Need-returns-2
 unfolding insertion insertedAs
 returns-2 c =
-    let a = c .before .before .before .before .before .before .before .args in
-    let k : chipOf (a .kind) ≡ Known.Unknown = sym (c .before .before .before .chip-of .ensures) ∙ c .before .enum-told .given .1 in
-    gives-is (rest _ _ (sym (c .before .before .before .before .before .has-card .ensures) ∙ c .before .before .before .before .if1 .left) ∙ ap (λ (x : Known). insertedAs x (a .slot) (a .image .now)) k) (gives-down Refusal.Image (a .slot) (a .image .now) [] (c .turn-down2 .ensures .0) (c .turn-down2 .ensures .1))
+    let at-chip-of = c .before .before .before in
+    let at-if1 = at-chip-of .before in
+    let at-has-card = at-if1 .before in
+    let start = at-has-card .before .before in
+    let a = start .args in
+    let k : chipOf (a .kind) ≡ Known.Unknown = sym (at-chip-of .chip-of .ensures) ∙ c .before .enum-told .given .1 in
+    gives-is (rest _ _ (sym (at-has-card .has-card .ensures) ∙ at-if1 .if1 .left) ∙ ap (λ (x : Known). insertedAs x (a .slot) (a .image .now)) k)
+    (gives-down Refusal.Image (a .slot) (a .image .now) [] (c .turn-down2 .ensures .0) (c .turn-down2 .ensures .1))
 
 is-card-requires : tie.Need-is-card-requires
 is-card-requires c κs = search needs
@@ -51,9 +59,16 @@ turn-down-requires-3 c κs = search needs
 returns-3 : tie.Need-returns-3
 unfolding insertion insertedAs
 returns-3 c =
-    let a = c .before .before .before .before .before .before .before .before .before .before .args in
-    let k = sym (c .before .before .before .before .before .before .chip-of .ensures) ∙ c .before .before .before .before .known .given .1 in
-    gives-is (rest _ _ (sym (c .before .before .before .before .before .before .before .before .has-card .ensures) ∙ c .before .before .before .before .before .before .before .if1 .left) ∙ ap (λ (x : Known). insertedAs x (a .slot) (a .image .now)) k ∙ rest _ _ (sym (c .before .before .is-card .ensures) ∙ not-true _ (c .before .if2 .taken))) (gives-down Refusal.Image (a .slot) (a .image .now) [] (c .turn-down3 .ensures .0) (c .turn-down3 .ensures .1))
+    let at-known = c .before .before .before .before in
+    let at-chip-of = at-known .before .before in
+    let at-if1 = at-chip-of .before in
+    let at-has-card = at-if1 .before in
+    let start = at-has-card .before .before in
+    let a = start .args in
+    let k = sym (at-chip-of .chip-of .ensures) ∙ at-known .known .given .1 in
+    gives-is (rest _ _ (sym (at-has-card .has-card .ensures) ∙ at-if1 .if1 .left) ∙ ap (λ (x : Known). insertedAs x (a .slot) (a .image .now)) k
+    ∙ rest _ _ (sym (c .before .before .is-card .ensures) ∙ not-true _ (c .before .if2 .taken)))
+    (gives-down Refusal.Image (a .slot) (a .image .now) [] (c .turn-down3 .ensures .0) (c .turn-down3 .ensures .1))
 
 insert-requires : tie.Need-insert-requires
 insert-requires c κs = search needs
@@ -61,9 +76,15 @@ insert-requires c κs = search needs
 returns-4 : tie.Need-returns-4
 unfolding insertion insertedAs
 returns-4 c =
-    let a = c .before .before .before .before .before .before .before .before .before .before .args in
-    let k = sym (c .before .before .before .before .before .before .chip-of .ensures) ∙ c .before .before .before .before .known .given .1 in
-    gives-is (rest _ _ (sym (c .before .before .before .before .before .before .before .before .has-card .ensures) ∙ c .before .before .before .before .before .before .before .if1 .left) ∙ ap (λ (x : Known). insertedAs x (a .slot) (a .image .now)) k ∙ first _ _ (sym (c .before .before .is-card .ensures) ∙ not-false _ (c .before .if2 .left)))
+    let at-known = c .before .before .before .before in
+    let at-chip-of = at-known .before .before in
+    let at-if1 = at-chip-of .before in
+    let at-has-card = at-if1 .before in
+    let start = at-has-card .before .before in
+    let a = start .args in
+    let k = sym (at-chip-of .chip-of .ensures) ∙ at-known .known .given .1 in
+    gives-is (rest _ _ (sym (at-has-card .has-card .ensures) ∙ at-if1 .if1 .left) ∙ ap (λ (x : Known). insertedAs x (a .slot) (a .image .now)) k
+    ∙ first _ _ (sym (c .before .before .is-card .ensures) ∙ not-false _ (c .before .if2 .left)))
     (record { number = refl; len = refl; slot = c .insert .ensures; image = refl; buffer = sym (over-none []) })
 
 pub insert-spec : {M : Type 1} → statement M

@@ -43,9 +43,10 @@ same-length c = search needs
 
 returns : tie.Need-returns Inv-loop μ-loop
 returns c =
+    let start = c .before .before .before in
     let l = c .before .loop in
-    let e : l .i ≡ c .before .before .before .args .n = omega arith in
-    l .inv .2 ∙ ap (λ (m : ℕ). blanked (c .before .before .before .args .at) (c .before .before .before .args .end) (c .before .before .before .args .code) m (c .before .before .before .args .out .now)) e
+    let e : l .i ≡ start .args .n = omega arith in
+    l .inv .2 ∙ ap (λ (m : ℕ). blanked (start .args .at) (start .args .end) (start .args .code) m (start .args .out .now)) e
 
 pub blank-spec : {M : Type 1} → statement M
 blank-spec =

@@ -32,9 +32,13 @@ enum-told c = search needs
 returns-2 : tie.Need-returns-2
 unfolding slotOf cardWith
 returns-2 c =
-    let r = c .before .before .before .before .before .before .args .raw .now in
-    let k : chipOf (byte r 0) ≡ Known.Unknown = ap chipOf (sym (c .before .before .before .before .byte-at .ensures)) ∙ sym (c .before .before .chip-of .ensures) ∙ c .enum-told .given .1 in
-    passed _ (ne-eqb _ 0 (λ e. c .before .before .before .if1 .left (c .before .before .before .before .byte-at .ensures ∙ e))) (sym (ap (λ (x : Known). cardWith x r) k))
+    let at-if1 = c .before .before .before in
+    let at-byte-at = at-if1 .before in
+    let start = at-byte-at .before .before in
+    let r = start .args .raw .now in
+    let k : chipOf (byte r 0) ≡ Known.Unknown =
+    ap chipOf (sym (at-byte-at .byte-at .ensures)) ∙ sym (c .before .before .chip-of .ensures) ∙ c .enum-told .given .1 in
+    passed _ (ne-eqb _ 0 (λ e. at-if1 .if1 .left (at-byte-at .byte-at .ensures ∙ e))) (sym (ap (λ (x : Known). cardWith x r) k))
 
 read-with-requires-2 : tie.Need-read-with-requires-2
 read-with-requires-2 c κs = search needs
@@ -42,9 +46,15 @@ read-with-requires-2 c κs = search needs
 returns-3 : tie.Need-returns-3
 unfolding slotOf cardWith
 returns-3 c =
-    let r = c .before .before .before .before .before .before .before .before .args .raw .now in
-    let k : chipOf (byte r 0) ≡ Known.Is (c .before .before .known .given .0 .0) = ap chipOf (sym (c .before .before .before .before .before .before .byte-at .ensures)) ∙ sym (c .before .before .before .before .chip-of .ensures) ∙ c .before .before .known .given .1 in
-    passed _ (ne-eqb _ 0 (λ e. c .before .before .before .before .before .if1 .left (c .before .before .before .before .before .before .byte-at .ensures ∙ e))) (c .read-with2 .ensures ∙ sym (ap (λ (x : Known). cardWith x r) k))
+    let at-chip-of = c .before .before .before .before in
+    let at-if1 = at-chip-of .before in
+    let at-byte-at = at-if1 .before in
+    let start = at-byte-at .before .before in
+    let r = start .args .raw .now in
+    let k : chipOf (byte r 0) ≡ Known.Is (c .before .before .known .given .0 .0) =
+    ap chipOf (sym (at-byte-at .byte-at .ensures)) ∙ sym (at-chip-of .chip-of .ensures) ∙ c .before .before .known .given .1 in
+    passed _ (ne-eqb _ 0 (λ e. at-if1 .if1 .left (at-byte-at .byte-at .ensures ∙ e)))
+    (c .read-with2 .ensures ∙ sym (ap (λ (x : Known). cardWith x r) k))
 
 pub read-record-spec : {M : Type 1} → statement M
 read-record-spec =

@@ -25,14 +25,22 @@ shared-slice-read-open c = search needs
 
 returns-3 : tie.Need-returns-3
 unfolding slotWith
-returns-3 c = (passed _ (ap not (eq-eqb _ 32 (c .before .before .before .before .if1 .left))) (passed _ (le-ltb 1 _ (c .before .before .if2 .left)) (taken _ (lt-ltb 1 _ (c .if3 .taken)))))
+returns-3 c =
+    let at-if1 = c .before .before .before .before in
+    (passed _ (ap not (eq-eqb _ 32 (at-if1 .if1 .left)))
+    (passed _ (le-ltb 1 _ (c .before .before .if2 .left)) (taken _ (lt-ltb 1 _ (c .if3 .taken)))))
 
 is-blank-requires : tie.Need-is-blank-requires
 is-blank-requires c κs = search needs
 
 returns-4 : tie.Need-returns-4
 unfolding slotWith
-returns-4 c = (passed _ (ap not (eq-eqb _ 32 (c .before .before .before .before .before .before .if1 .left))) (passed _ (le-ltb 1 _ (c .before .before .before .before .if2 .left)) (passed _ (le-ltb 1 _ (c .before .before .if3 .left)) (taken _ (ap not (sym (c .before .is-blank .ensures)) ∙ c .if4 .taken)))))
+returns-4 c =
+    let at-if2 = c .before .before .before .before in
+    let at-if1 = at-if2 .before .before in
+    (passed _ (ap not (eq-eqb _ 32 (at-if1 .if1 .left)))
+    (passed _ (le-ltb 1 _ (at-if2 .if2 .left))
+    (passed _ (le-ltb 1 _ (c .before .before .if3 .left)) (taken _ (ap not (sym (c .before .is-blank .ensures)) ∙ c .if4 .taken)))))
 
 shared-slice-read-of : tie.Need-shared-slice-read-of
 shared-slice-read-of c = search needs

@@ -27,9 +27,14 @@ write-state-requires c κs = simp length-set (omega arith)
 
 clear-rest-requires : tie.Need-clear-rest-requires
 clear-rest-requires c κs =
-    let a = c .before .before .before .before .before .before .before .before .args in
-    let k = c .before .before .before .before .before .kind-of .result in
-    ap length (c .before .before .before .write-state .ensures) ∙ length-sets (set (a .raw .now) 0 k) 1 (stateOf (a .slot)) ∙ length-set (a .raw .now) 0 k ∙ c .before .before .before .before .before .before .if1 .left
+    let at-write-state = c .before .before .before in
+    let at-kind-of = at-write-state .before .before in
+    let at-if1 = at-kind-of .before in
+    let start = at-if1 .before .before in
+    let a = start .args in
+    let k = at-kind-of .kind-of .result in
+    ap length (at-write-state .write-state .ensures) ∙ length-sets (set (a .raw .now) 0 k) 1 (stateOf (a .slot)) ∙ length-set (a .raw .now) 0 k
+    ∙ at-if1 .if1 .left
 
 same-length : tie.Need-same-length
 same-length c =
@@ -43,11 +48,15 @@ same-length c =
 
 returns-2 : tie.Need-returns-2
 returns-2 c =
-    let a = c .before .before .before .before .before .before .before .before .before .before .before .args in
-    met _ (eq-eqb _ 32 (c .before .before .before .before .before .before .before .before .before .if1 .left))
+    let at-write-state = c .before .before .before .before .before .before in
+    let at-kind-of = at-write-state .before .before in
+    let at-if1 = at-kind-of .before in
+    let start = at-if1 .before .before in
+    let a = start .args in
+    met _ (eq-eqb _ 32 (at-if1 .if1 .left))
     (c .before .before .clear-rest .ensures
-    ∙ ap (λ (t : List ℕ). sets t 5 (replicate 27 0)) (c .before .before .before .before .before .before .write-state .ensures)
-    ∙ record-written (a .raw .now) (a .slot) (c .before .before .before .before .before .before .before .before .kind-of .result) (c .before .before .before .before .before .before .before .before .before .if1 .left) (c .before .before .before .before .before .before .before .before .kind-of .ensures))
+    ∙ ap (λ (t : List ℕ). sets t 5 (replicate 27 0)) (at-write-state .write-state .ensures)
+    ∙ record-written (a .raw .now) (a .slot) (at-kind-of .kind-of .result) (at-if1 .if1 .left) (at-kind-of .kind-of .ensures))
 
 pub write-record-spec : {M : Type 1} → statement M
 write-record-spec =

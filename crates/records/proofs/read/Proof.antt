@@ -48,6 +48,29 @@ add-mark-of c = omega (arith, c .before .before .wide .ensures .1, c .wide2 .ens
 mark-of-requires : tie.Need-mark-of-requires
 mark-of-requires c κs = search needs
 
+-- ---- what stands at the place, behind the first two tests
+-- by its mark
+found : (p : tie.After-mark-of) {r : Record} (marked : Marked) → p .mark-of .result ≡ marked
+    → let a = p .before .before .before .before .before .before .before .before .args in r ≡ bodyAt marked (a .input .now) (a .at)
+    → r ≡ recordAt (a .input .now) (a .at)
+unfolding recordAt
+found p marked k h =
+    let at-wide2 = p .before in
+    let at-wide = at-wide2 .before .before in
+    let at-if2 = at-wide .before .before in
+    let at-if1 = at-if2 .before in
+    let a = at-if1 .before .before .args in
+    let w : 256 * at-wide .wide .result + at-wide2 .wide2 .result ≡ wordAt (a .input .now) (a .at) =
+    omega (arith, at-wide .wide .ensures .0, at-wide2 .wide2 .ensures .0) in
+    let marks : marked ≡ markOf (wordAt (a .input .now) (a .at)) = sym k ∙ p .mark-of .ensures ∙ ap markOf w in
+    passed _ (lt-leb _ _ (at-if1 .if1 .left))
+    (passed _ (le-ltb _ 4 (at-if2 .if2 .left)) (h ∙ ap (λ (x : Marked). bodyAt x (a .input .now) (a .at)) marks))
+
+-- its length
+length-is : (p : tie.After-wide4) → let a = p .before .before .before .before .before .before .before .before .before .before .before .before .before .before .before .args in
+    p .before .before .wide3 .result + 256 * p .wide4 .result ≡ lengthAt (a .input .now) (a .at)
+length-is p = omega (arith, p .before .before .wide3 .ensures .0, p .wide4 .ensures .0)
+
 enum-known-marked : tie.Need-enum-known-marked
 enum-known-marked c = search needs
 
@@ -56,12 +79,7 @@ enum-told c = search needs
 
 returns-3 : tie.Need-returns-3
 unfolding recordAt bodyAt
-returns-3 c =
-    let l : List ℕ = c .before .before .before .before .before .before .before .before .before .before .args .input .now in
-    let at : ℕ = c .before .before .before .before .before .before .before .before .before .before .args .at in
-    let w : 256 * c .before .before .before .before .before .wide .result + c .before .before .before .wide2 .result ≡ wordAt l at = omega (arith, c .before .before .before .before .before .wide .ensures .0, c .before .before .before .wide2 .ensures .0) in
-    let k = sym (c .before .before .mark-of .ensures ∙ ap markOf w) ∙ c .enum-told .given .1 in
-    passed _ (lt-leb _ _ (c .before .before .before .before .before .before .before .before .if1 .left)) (passed _ (le-ltb _ 4 (c .before .before .before .before .before .before .before .if2 .left)) (refl ∙ ap (λ (x : Marked). bodyAt x l at) (sym k)))
+returns-3 c = found (c .before .before) _ (c .enum-told .given .1) refl
 
 add-wide-2 : tie.Need-add-wide-2
 add-wide-2 c = search needs
@@ -93,14 +111,12 @@ most-requires c κs = search needs
 returns-4 : tie.Need-returns-4
 unfolding recordAt bodyAt
 returns-4 c =
-    let l : List ℕ = c .before .before .before .before .before .before .before .before .before .before .before .before .before .before .before .before .before .args .input .now in
-    let at : ℕ = c .before .before .before .before .before .before .before .before .before .before .before .before .before .before .before .before .before .args .at in
-    let w : 256 * c .before .before .before .before .before .before .before .before .before .before .before .before .wide .result + c .before .before .before .before .before .before .before .before .before .before .wide2 .result ≡ wordAt l at = omega (arith, c .before .before .before .before .before .before .before .before .before .before .before .before .wide .ensures .0, c .before .before .before .before .before .before .before .before .before .before .wide2 .ensures .0) in
-    let k = sym (c .before .before .before .before .before .before .before .before .before .mark-of .ensures ∙ ap markOf w) ∙ c .before .before .before .before .before .before .before .marked .given .1 in
-    let n : c .before .before .before .before .wide3 .result + 256 * c .before .before .wide4 .result ≡ lengthAt l at = omega (arith, c .before .before .before .before .wide3 .ensures .0, c .before .before .wide4 .ensures .0) in
-    let m : c .before .most .result ≡ most (c .before .before .before .before .before .before .before .marked .given .0 .0) = c .before .most .ensures in
-    let p : most (c .before .before .before .before .before .before .before .marked .given .0 .0) < lengthAt l at = omega (arith, n, m, c .if3 .taken) in
-    passed _ (lt-leb _ _ (c .before .before .before .before .before .before .before .before .before .before .before .before .before .before .before .if1 .left)) (passed _ (le-ltb _ 4 (c .before .before .before .before .before .before .before .before .before .before .before .before .before .before .if2 .left)) (taken _ (lt-ltb _ _ p) ∙ ap (λ (x : Marked). bodyAt x l at) (sym k)))
+    let p = c .before .before in
+    let at-marked = p .before .before .before .before .before in
+    let a = at-marked .before .before .before .before .before .before .before .before .before .before .args in
+    let n : ℕ = lengthAt (a .input .now) (a .at) in
+    let long : most (at-marked .marked .given .0 .0) < n = omega (arith, length-is p, c .before .most .ensures, c .if3 .taken) in
+    found (at-marked .before .before) _ (at-marked .marked .given .1) (taken _ (lt-ltb _ _ long))
 
 add-start : tie.Need-add-start
 add-start c = search needs
@@ -111,15 +127,13 @@ sub-if4 c = search needs
 returns-5 : tie.Need-returns-5
 unfolding recordAt bodyAt
 returns-5 c =
-    let l : List ℕ = c .before .before .before .before .before .before .before .before .before .before .before .before .before .before .before .before .before .before .args .input .now in
-    let at : ℕ = c .before .before .before .before .before .before .before .before .before .before .before .before .before .before .before .before .before .before .args .at in
-    let w : 256 * c .before .before .before .before .before .before .before .before .before .before .before .before .before .wide .result + c .before .before .before .before .before .before .before .before .before .before .before .wide2 .result ≡ wordAt l at = omega (arith, c .before .before .before .before .before .before .before .before .before .before .before .before .before .wide .ensures .0, c .before .before .before .before .before .before .before .before .before .before .before .wide2 .ensures .0) in
-    let k = sym (c .before .before .before .before .before .before .before .before .before .before .mark-of .ensures ∙ ap markOf w) ∙ c .before .before .before .before .before .before .before .before .marked .given .1 in
-    let n : c .before .before .before .before .before .wide3 .result + 256 * c .before .before .before .wide4 .result ≡ lengthAt l at = omega (arith, c .before .before .before .before .before .wide3 .ensures .0, c .before .before .before .wide4 .ensures .0) in
-    let m : c .before .before .most .result ≡ most (c .before .before .before .before .before .before .before .before .marked .given .0 .0) = c .before .before .most .ensures in
-    let p : lengthAt l at ≤ most (c .before .before .before .before .before .before .before .before .marked .given .0 .0) = omega (arith, n, m, c .before .if3 .left) in
-    let q : length l - (at + 4) < lengthAt l at = omega (arith, n, c .if4 .taken) in
-    passed _ (lt-leb _ _ (c .before .before .before .before .before .before .before .before .before .before .before .before .before .before .before .before .if1 .left)) (passed _ (le-ltb _ 4 (c .before .before .before .before .before .before .before .before .before .before .before .before .before .before .before .if2 .left)) ((passed _ (le-ltb _ _ p) (taken _ (lt-ltb _ _ q))) ∙ ap (λ (x : Marked). bodyAt x l at) (sym k)))
+    let p = c .before .before .before in
+    let at-marked = p .before .before .before .before .before in
+    let a = at-marked .before .before .before .before .before .before .before .before .before .before .args in
+    let n : ℕ = lengthAt (a .input .now) (a .at) in
+    let small : n ≤ most (at-marked .marked .given .0 .0) = omega (arith, length-is p, c .before .before .most .ensures, c .before .if3 .left) in
+    let cut : length (a .input .now) - (a .at + 4) < n = omega (arith, length-is p, c .if4 .taken) in
+    found (at-marked .before .before) _ (at-marked .marked .given .1) (passed _ (le-ltb _ _ small) (taken _ (lt-ltb _ _ cut)))
 
 add-t12 : tie.Need-add-t12
 add-t12 c = omega (arith, c .before .before .before .before .before .wide3 .ensures .1, c .before .before .before .wide4 .ensures .1, c .if4 .left)
@@ -127,15 +141,14 @@ add-t12 c = omega (arith, c .before .before .before .before .before .wide3 .ensu
 returns-6 : tie.Need-returns-6
 unfolding recordAt bodyAt
 returns-6 c =
-    let l : List ℕ = c .before .before .before .before .before .before .before .before .before .before .before .before .before .before .before .before .before .before .args .input .now in
-    let at : ℕ = c .before .before .before .before .before .before .before .before .before .before .before .before .before .before .before .before .before .before .args .at in
-    let w : 256 * c .before .before .before .before .before .before .before .before .before .before .before .before .before .wide .result + c .before .before .before .before .before .before .before .before .before .before .before .wide2 .result ≡ wordAt l at = omega (arith, c .before .before .before .before .before .before .before .before .before .before .before .before .before .wide .ensures .0, c .before .before .before .before .before .before .before .before .before .before .before .wide2 .ensures .0) in
-    let k = sym (c .before .before .before .before .before .before .before .before .before .before .mark-of .ensures ∙ ap markOf w) ∙ c .before .before .before .before .before .before .before .before .marked .given .1 in
-    let n : c .before .before .before .before .before .wide3 .result + 256 * c .before .before .before .wide4 .result ≡ lengthAt l at = omega (arith, c .before .before .before .before .before .wide3 .ensures .0, c .before .before .before .wide4 .ensures .0) in
-    let m : c .before .before .most .result ≡ most (c .before .before .before .before .before .before .before .before .marked .given .0 .0) = c .before .before .most .ensures in
-    let p : lengthAt l at ≤ most (c .before .before .before .before .before .before .before .before .marked .given .0 .0) = omega (arith, n, m, c .before .if3 .left) in
-    let q : lengthAt l at ≤ length l - (at + 4) = omega (arith, n, c .if4 .left) in
-    passed _ (lt-leb _ _ (c .before .before .before .before .before .before .before .before .before .before .before .before .before .before .before .before .if1 .left)) (passed _ (le-ltb _ 4 (c .before .before .before .before .before .before .before .before .before .before .before .before .before .before .before .if2 .left)) ((passed _ (le-ltb _ _ p) (passed _ (le-ltb _ _ q) (ap (λ (e : ℕ). Record.Whole (c .before .before .before .before .before .before .before .before .marked .given .0 .0) (at + 4) (at + 4 + e)) n))) ∙ ap (λ (x : Marked). bodyAt x l at) (sym k)))
+    let p = c .before .before .before in
+    let at-marked = p .before .before .before .before .before in
+    let a = at-marked .before .before .before .before .before .before .before .before .before .before .args in
+    let n : ℕ = lengthAt (a .input .now) (a .at) in
+    let small : n ≤ most (at-marked .marked .given .0 .0) = omega (arith, length-is p, c .before .before .most .ensures, c .before .if3 .left) in
+    let whole : n ≤ length (a .input .now) - (a .at + 4) = omega (arith, length-is p, c .if4 .left) in
+    let ends = ap (λ (e : ℕ). Record.Whole (at-marked .marked .given .0 .0) (a .at + 4) (a .at + 4 + e)) (length-is p) in
+    found (at-marked .before .before) _ (at-marked .marked .given .1) (passed _ (le-ltb _ _ small) (passed _ (le-ltb _ _ whole) ends))
 
 pub read-spec : {M : Type 1} → statement M
 read-spec =

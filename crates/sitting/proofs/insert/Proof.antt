@@ -21,9 +21,12 @@ same-length c = search needs
 returns : tie.Need-returns
 unfolding outcomeOf
 returns c =
-    let a = c .before .before .before .before .before .before .before .args in
-    let n : a .body .now ≡ [] = empty-list (a .body .now) (c .before .before .before .before .if1 .taken) in
-    λ was. leaves-is (ap (λ (b : List ℕ). inserting (a .slot) (byte b 0) (drop 1 b) (take (a .size) (a .image .now))) n ∙ ap (λ (b : List ℕ). inserting (a .slot) 0 b (take (a .size) (a .image .now))) (sym n)) (c .before .before .put-in .ensures was)
+    let at-if1 = c .before .before .before .before in
+    let start = at-if1 .before .before .before in
+    let a = start .args in
+    let n : a .body .now ≡ [] = empty-list (a .body .now) (at-if1 .if1 .taken) in
+    λ was. leaves-is (ap (λ (b : List ℕ). inserting (a .slot) (byte b 0) (drop 1 b) (take (a .size) (a .image .now))) n
+    ∙ ap (λ (b : List ℕ). inserting (a .slot) 0 b (take (a .size) (a .image .now))) (sym n)) (c .before .before .put-in .ensures was)
 
 shared-slice-read-put-in : tie.Need-shared-slice-read-put-in
 shared-slice-read-put-in c = search needs
@@ -46,8 +49,10 @@ same-length-2 c = search needs
 returns-2 : tie.Need-returns-2
 unfolding outcomeOf
 returns-2 c =
-    let a = c .before .before .before .before .before .before .before .before .before .args in
-    λ was. leaves-is (ap (λ (b : List ℕ). inserting (a .slot) (byte (a .body .now) 0) b (take (a .size) (a .image .now))) (sym (tail-is 1 (a .body .now)))) (c .before .before .put-in2 .ensures was)
+    let start = c .before .before .before .before .before .before .before .before .before in
+    let a = start .args in
+    λ was. leaves-is (ap (λ (b : List ℕ). inserting (a .slot) (byte (a .body .now) 0) b (take (a .size) (a .image .now)))
+    (sym (tail-is 1 (a .body .now)))) (c .before .before .put-in2 .ensures was)
 
 pub insert-spec : {M : Type 1} → statement M
 insert-spec =

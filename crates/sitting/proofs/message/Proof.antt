@@ -31,9 +31,12 @@ same-length-2 c = search needs
 
 returns : tie.Need-returns
 returns c =
-    let a = c .before .before .before .before .before .before .before .before .before .before .before .before .before .args in
-    let e : length (c .before .before .before .before .before .before .before .message .last .1 .0) ≡ a .size = c .before .before .before .before .before .before .before .message .kept .1 .0 ∙ length-take-le (a .size) (a .image .now) (omega arith) in
-    leaves-message (a .size) (a .image .now) e (c .before .before .before .before .before .before .before .message .ensures) (c .before .number .ensures .0) (c .len .ensures) refl refl
+    let at-message = c .before .before .before .before .before .before .before in
+    let start = at-message .before .before .before .before .before .before in
+    let a = start .args in
+    let e : length (at-message .message .last .1 .0) ≡ a .size =
+    at-message .message .kept .1 .0 ∙ length-take-le (a .size) (a .image .now) (omega arith) in
+    leaves-message (a .size) (a .image .now) e (at-message .message .ensures) (c .before .number .ensures .0) (c .len .ensures) refl refl
 
 pub message-spec : {M : Type 1} → statement M
 message-spec =

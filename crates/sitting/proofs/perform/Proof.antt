@@ -37,26 +37,38 @@ message-requires c κs = omega (arith, c .before .before .before .before .least 
 
 returns : tie.Need-returns
 returns c =
-    let a = c .before .before .before .before .before .before .before .args in
+    let at-least = c .before .before .before .before in
+    let start = at-least .before .before .before in
+    let a = start .args in
     let im : List ℕ = a .image .now in
-    let t : take (c .before .before .before .before .least .result) im ≡ take (a .held .size) im = ap (λ (n : ℕ). take n im) (c .before .before .before .before .least .ensures) ∙ take-min (a .held .size) largest im (omega arith) in
-    leaves-is (ap (λ (m : Mark). outcomeOf m (a .body .now) (a .held .slot) (take (a .held .size) im) leastRoom) (c .before .before .enum-told .given .1) ∙ ap (λ (b : List ℕ). outcomeOf Mark.Insert (a .body .now) (a .held .slot) b leastRoom) (sym t)) (c .insert .ensures (a .answer .now))
+    let t : take (at-least .least .result) im ≡ take (a .held .size) im =
+    ap (λ (n : ℕ). take n im) (at-least .least .ensures) ∙ take-min (a .held .size) largest im (omega arith) in
+    leaves-is (ap (λ (m : Mark). outcomeOf m (a .body .now) (a .held .slot) (take (a .held .size) im) leastRoom)
+    (c .before .before .enum-told .given .1) ∙ ap (λ (b : List ℕ). outcomeOf Mark.Insert (a .body .now) (a .held .slot) b leastRoom) (sym t))
+    (c .insert .ensures (a .answer .now))
 
 returns-2 : tie.Need-returns-2
 unfolding outcomeOf
 returns-2 c =
-    let a = c .before .before .before .before .before .before .args in
+    let start = c .before .before .before .before .before .before in
+    let a = start .args in
     let e = c .remove .ensures in
-    leaves-is (ap (λ (m : Mark). outcomeOf m (a .body .now) (a .held .slot) (take (a .held .size) (a .image .now)) leastRoom) (c .before .enum-told2 .given .1)) (leaves-taken (a .image .now) (a .answer .now) (e .0) (e .1) (e .2) (e .3))
+    leaves-is (ap (λ (m : Mark). outcomeOf m (a .body .now) (a .held .slot) (take (a .held .size) (a .image .now)) leastRoom)
+    (c .before .enum-told2 .given .1)) (leaves-taken (a .image .now) (a .answer .now) (e .0) (e .1) (e .2) (e .3))
 
 returns-3 : tie.Need-returns-3
 unfolding outcomeOf
 returns-3 c =
-    let a = c .before .before .before .before .before .before .before .before .args in
+    let at-enum-told3 = c .before .before .before in
+    let at-least = at-enum-told3 .before .before in
+    let start = at-least .before .before .before in
+    let a = start .args in
     let im : List ℕ = a .image .now in
-    let t : take (c .before .before .before .before .before .least .result) im ≡ take (a .held .size) im = ap (λ (n : ℕ). take n im) (c .before .before .before .before .before .least .ensures) ∙ take-min (a .held .size) largest im (omega arith) in
+    let t : take (at-least .least .result) im ≡ take (a .held .size) im =
+    ap (λ (n : ℕ). take n im) (at-least .least .ensures) ∙ take-min (a .held .size) largest im (omega arith) in
     let r : length (a .answer .now) ≡ leastRoom = omega arith in
-    leaves-is (ap (λ (m : Mark). outcomeOf m (a .body .now) (a .held .slot) (take (a .held .size) im) leastRoom) (c .before .before .before .enum-told3 .given .1) ∙ ap₂ (λ (b : List ℕ) (n : ℕ). exchange (a .held .slot) b (a .body .now) n) (sym t) (sym r)) (c .message .ensures)
+    leaves-is (ap (λ (m : Mark). outcomeOf m (a .body .now) (a .held .slot) (take (a .held .size) im) leastRoom) (at-enum-told3 .enum-told3 .given .1)
+    ∙ ap₂ (λ (b : List ℕ) (n : ℕ). exchange (a .held .slot) b (a .body .now) n) (sym t) (sym r)) (c .message .ensures)
 
 pub perform-spec : {M : Type 1} → statement M
 perform-spec =

@@ -37,11 +37,13 @@ facts-requires-3 c κs = search needs
 
 returns-3 : tie.Need-returns-3
 returns-3 c =
+    let at-before = c .before .before .before in
+    let start = at-before .before .before .before .before .before .before .before .before in
     let on = c .before .before .before .before in
-    let counter = c .before .before .before .facts2 .ensures in
+    let counter = at-before .facts2 .ensures in
     let full = c .before .facts3 .ensures in
     and-holds (sym (ap (λ (f : Facts). f .coded) (on .before .before .facts .ensures)) ∙ not-false _ (on .if1 .left)) (cc)
-    ∙ sym (ap (λ (h : Holds). fullCode h (c .before .before .before .before .before .before .before .before .before .before .before .args .image .now)) (on .before .before .before .before .holds .given .1))
+    ∙ sym (ap (λ (h : Holds). fullCode h (start .args .image .now)) (on .before .before .before .before .holds .given .1))
 
 pub full-code-spec : {M : Type 1} → statement M
 full-code-spec =

@@ -19,7 +19,10 @@ empty-sound-requires c κs = search needs
 
 returns-2 : tie.Need-returns-2
 unfolding sound
-returns-2 c = and-holds (sym (c .before .before .before .page-size .ensures) ∙ not-false _ (c .before .before .if1 .left)) (and-fails _ (sym (c .before .empty-sound .ensures) ∙ not-true _ (c .if2 .taken)))
+returns-2 c =
+    let at-page-size = c .before .before .before in
+    and-holds (sym (at-page-size .page-size .ensures) ∙ not-false _ (c .before .before .if1 .left))
+    (and-fails _ (sym (c .before .empty-sound .ensures) ∙ not-true _ (c .if2 .taken)))
 
 idle-sound-requires : tie.Need-idle-sound-requires
 idle-sound-requires c κs = search needs
@@ -48,9 +51,15 @@ open-sound-requires c κs = search needs
 returns-5 : tie.Need-returns-5
 unfolding sound
 returns-5 c =
-    and-holds (sym (c .before .before .before .before .before .before .before .before .page-size .ensures) ∙ not-false _ (c .before .before .before .before .before .before .before .if1 .left))
-    (and-holds (sym (c .before .before .before .before .before .before .empty-sound .ensures) ∙ not-false _ (c .before .before .before .before .before .if2 .left))
-    (and-holds (sym (c .before .before .before .before .idle-sound .ensures) ∙ not-false _ (c .before .before .before .if3 .left))
+    let at-if3 = c .before .before .before in
+    let at-idle-sound = at-if3 .before in
+    let at-if2 = at-idle-sound .before in
+    let at-empty-sound = at-if2 .before in
+    let at-if1 = at-empty-sound .before in
+    let at-page-size = at-if1 .before in
+    and-holds (sym (at-page-size .page-size .ensures) ∙ not-false _ (at-if1 .if1 .left))
+    (and-holds (sym (at-empty-sound .empty-sound .ensures) ∙ not-false _ (at-if2 .if2 .left))
+    (and-holds (sym (at-idle-sound .idle-sound .ensures) ∙ not-false _ (at-if3 .if3 .left))
     (and-holds (sym (c .before .before .type-sound .ensures) ∙ not-false _ (c .before .if4 .left)) (c .open-sound .ensures))))
 
 pub is-sound-spec : {M : Type 1} → statement M

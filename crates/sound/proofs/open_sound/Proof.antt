@@ -25,7 +25,13 @@ own-type-requires c κs = search needs
 
 returns-3 : tie.Need-returns-3
 unfolding openSound
-returns-3 c = means-on (not-false _ (c .before .before .before .before .if1 .left)) (and-holds (sym (c .before .before .before .full-code .ensures) ∙ not-false _ (c .before .before .if2 .left)) (ap (λ (t : ℕ). c .before .before .before .before .before .before .before .args .slot .selected is t) (c .before .own-type .ensures)))
+returns-3 c =
+    let at-full-code = c .before .before .before in
+    let at-if1 = at-full-code .before in
+    let start = at-if1 .before .before .before in
+    means-on (not-false _ (at-if1 .if1 .left))
+    (and-holds (sym (at-full-code .full-code .ensures) ∙ not-false _ (c .before .before .if2 .left))
+    (ap (λ (t : ℕ). start .args .slot .selected is t) (c .before .own-type .ensures)))
 
 pub open-sound-spec : {M : Type 1} → statement M
 open-sound-spec =

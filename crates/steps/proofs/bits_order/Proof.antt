@@ -53,13 +53,19 @@ add-if5 c = search needs
 
 returns-5 : tie.Need-returns-5
 returns-5 c im v =
-    let a = c .before .before .before .before .before .before .before .before .before .before .before .args in
-    stop7 (onP3 (c .before .before .before)) (lt-leb (a .at + 8 * a .p) (facts (a .chip) .covered) (omega (arith, ap (λ (f : Facts). f .covered) (c .before .before .facts2 .ensures), c .if5 .taken))) im v
+    let start = c .before .before .before .before .before .before .before .before .before .before .before in
+    let a = start .args in
+    stop7 (onP3 (c .before .before .before))
+    (lt-leb (a .at + 8 * a .p) (facts (a .chip) .covered)
+    (omega (arith, ap (λ (f : Facts). f .covered) (c .before .before .facts2 .ensures), c .if5 .taken))) im v
 
 returns-6 : tie.Need-returns-6
 returns-6 c im v =
-    let a = c .before .before .before .before .before .before .before .before .before .before .before .args in
-    past-all (past7 (onP3 (c .before .before .before)) (le-leb (a .at + 8 * a .p) (facts (a .chip) .covered) (omega (arith, ap (λ (f : Facts). f .covered) (c .before .before .facts2 .ensures), c .if5 .left)))) v refl refl im refl
+    let start = c .before .before .before .before .before .before .before .before .before .before .before in
+    let a = start .args in
+    past-all (past7 (onP3 (c .before .before .before))
+    (le-leb (a .at + 8 * a .p) (facts (a .chip) .covered)
+    (omega (arith, ap (λ (f : Facts). f .covered) (c .before .before .facts2 .ensures), c .if5 .left)))) v refl refl im refl
 
 pub bits-order-spec : {M : Type 1} → statement M
 bits-order-spec =

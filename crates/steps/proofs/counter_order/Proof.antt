@@ -43,7 +43,9 @@ add-if4 : tie.Need-add-if4
 add-if4 c = omega (arith, ap (λ (f : Facts). f .digits) (c .before .facts2 .ensures), laid (c .before .before .before .before .before .before .before .before .args .chip) .digits)
 
 returns-4 : tie.Need-returns-4
-returns-4 c im v = stopP3 (on6 (c .before .before .before)) (ne-eqb _ _ (λ e. c .if4 .taken (e ∙ sym (ap (λ (f : Facts). f .digits + 1) (c .before .before .facts2 .ensures))))) im v
+returns-4 c im v =
+    stopP3 (on6 (c .before .before .before))
+    (ne-eqb _ _ (λ e. c .if4 .taken (e ∙ sym (ap (λ (f : Facts). f .digits + 1) (c .before .before .facts2 .ensures))))) im v
 
 returns-5 : tie.Need-returns-5
 returns-5 c im v = stop7 (onP3 (c .before)) (ne-eqb _ 0 (c .if5 .taken)) im v

@@ -37,13 +37,19 @@ add-if4 c = search needs
 
 returns-4 : tie.Need-returns-4
 returns-4 c im v =
-    let a = c .before .before .before .before .before .before .before .args in
-    stop7 (onP3 (c .before .before .before)) (lt-leb (a .at + a .p) (facts (a .chip) .memory) (omega (arith, ap (λ (f : Facts). f .memory) (c .before .before .facts .ensures), c .if4 .taken))) im v
+    let start = c .before .before .before .before .before .before .before in
+    let a = start .args in
+    stop7 (onP3 (c .before .before .before))
+    (lt-leb (a .at + a .p) (facts (a .chip) .memory)
+    (omega (arith, ap (λ (f : Facts). f .memory) (c .before .before .facts .ensures), c .if4 .taken))) im v
 
 returns-5 : tie.Need-returns-5
 returns-5 c im v =
-    let a = c .before .before .before .before .before .before .before .args in
-    past-all (past7 (onP3 (c .before .before .before)) (le-leb (a .at + a .p) (facts (a .chip) .memory) (omega (arith, ap (λ (f : Facts). f .memory) (c .before .before .facts .ensures), c .if4 .left)))) v refl refl im refl
+    let start = c .before .before .before .before .before .before .before in
+    let a = start .args in
+    past-all (past7 (onP3 (c .before .before .before))
+    (le-leb (a .at + a .p) (facts (a .chip) .memory)
+    (omega (arith, ap (λ (f : Facts). f .memory) (c .before .before .facts .ensures), c .if4 .left)))) v refl refl im refl
 
 pub read-order-spec : {M : Type 1} → statement M
 read-order-spec =
