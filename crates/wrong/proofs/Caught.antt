@@ -23,7 +23,7 @@ use Rattle.wrong.specs.Caught.{Call, GivesEach, Refuted, EachRefuted}
 use Rattle.wrong.specs.Witnesses.{wrongReaders, witnesses}
 
 -- ---- what is equal is alike
-same-of : {a b : List ℕ} → a ≡ b → same a b ≡ true
+pub same-of : {a b : List ℕ} → a ≡ b → same a b ≡ true
 same-of {a} e = subst (λ (l : List ℕ). same a l ≡ true) e (same-self a)
 
 beq-self : (b : Bool) → Bool·beq b b ≡ true
@@ -45,7 +45,7 @@ like-parts o p n a s i = both (eq-eqb _ _ n) (both (same-of a) (both (like-slot 
 
 -- ---- one reply, image and buffer meet one outcome
 -- the answer is read back from the buffer: it is the front, as long as the reply says
-answer-met : (a b was : List ℕ) → length a ≡ length b → over a was ≡ over b was → a ≡ b
+pub answer-met : (a b was : List ℕ) → length a ≡ length b → over a was ≡ over b was → a ≡ b
 answer-met a b was n e = sym (front-over a was) ∙ ap (λ (k : ℕ). take k (over a was)) n ∙ ap (take (length b)) e ∙ front-over b was
 
 met-alike : (o p : Outcome) (r : Reply) (left was holds : List ℕ) → Gives o r left was holds → Gives p r left was holds → likeOutcome o p ≡ true
@@ -75,7 +75,7 @@ refuted (byInsertion w s kind image) e = no-code _ _ (not-true _ e)
 refuted (byRemoval w s) e = λ r p q. no-test (like-slot (sym p ∙ q)) (not-true _ e)
 
 -- where no row is uncaught, every row is refuted
-none-left : (k : ℕ) (b : Bool) (later : ℕ) → (b ⇒ later ⁏ k + 1) ≡ 0 → (b ≡ true) × (later ≡ 0)
+pub none-left : (k : ℕ) (b : Bool) (later : ℕ) → (b ⇒ later ⁏ k + 1) ≡ 0 → (b ≡ true) × (later ≡ 0)
 unfolding _⇒_⁏_
 none-left k true later e = (refl, e)
 none-left k false later e = absurd (omega arith)
@@ -99,6 +99,6 @@ all-caught = refl
 pub all-refuted : EachRefuted wrongReaders
 all-refuted = each-refuted 0 wrongReaders all-caught
 
-pub row-count : length wrongReaders ≡ 1341
+pub row-count : length wrongReaders ≡ 1355
 unfolding rules wrongReaders
 row-count = refl

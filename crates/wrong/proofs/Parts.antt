@@ -29,7 +29,7 @@ use Rattle.frame.specs.Exchange.{served, Outcome, turnedDown, answered, replied
 use Rattle.reader.specs.Runs.{Sent, sending, run}
 use Rattle.promise.specs.Sequences.{sentWith}
 use Rattle.promise.proofs.Reached.{transfers-is, transfer-does}
-use Rattle.wrong.specs.Wrong.{Reader, oneByOne, cardIn, taking, vetting, faulting, upon, commandingOn, commanding, ordering, sooner, letting, barring}
+use Rattle.wrong.specs.Wrong.{Reader, rowed, oneByOne, cardIn, taking, vetting, faulting, upon, commandingOn, commanding, ordering, sooner, letting, barring}
 use Rattle.wrong.specs.Wrong.{doing, atWrong, atRight, insertsAs, insertsBy, uponInsert}
 
 -- a reader gives what ours gives, at every input
@@ -118,6 +118,9 @@ commanding-on (Card chip) does s i m room h e =
 pub commanding-ours : (does : Facts → Slot → List ℕ → List ℕ → Deed)
     → ((f : Facts) (s : Slot) (i d : List ℕ) → does f s i d ≡ commanded f s i d) → Ours (commanding does)
 commanding-ours does e s i m room = commanding-on (s .holds) does s i m room refl (λ f d. e f s i d)
+
+pub rowed-ours : Ours (rowed (λ f. f))
+rowed-ours = commanding-ours _ (λ f s i d. refl)
 
 pub ordering-ours : (orders : Facts → Slot → List ℕ → List ℕ → Order)
     → ((f : Facts) (s : Slot) (i d : List ℕ) → orders f s i d ≡ order f s i d) → Ours (ordering orders)

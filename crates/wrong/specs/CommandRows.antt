@@ -5,7 +5,7 @@ use Rattle.chips.specs.declared.Chip.the-variants.{I2c1, I2c2, I2c4, I2c8, I2c1
 use Rattle.slot.specs.Slots.{removed, paged}
 use Rattle.steps.specs.declared.Status.{Status}
 use Rattle.vectors.specs.Sessions.{transfer, wrong4442, right4442}
-use Rattle.promise.specs.Visits.{select, readCounter}
+use Rattle.promise.specs.Visits.{select, wrong4428, right4428, readCounter}
 use Rattle.wrong.specs.Caught.{Witness, byInsertion}
 use Rattle.wrong.specs.Inputs.{bare, shut, wide, mem4442, mem4428, kept4442, memI2c, ask, sixteen, on, at4442}
 use Rattle.wrong.specs.WrongDowns as downs
@@ -104,6 +104,7 @@ stepRows8to10 =
     ∷ on steps.i2cNeedsOpen (shut I2c1) memI2c (ask 0xD0 0x00 0x00 0x01 (0x05 ∷ []))
     ∷ on steps.overProtected (wide Sle4442) kept4442 (ask 0xD0 0x00 0x01 0x01 (0x05 ∷ []))
     ∷ on steps.looksAtFirst (wide Sle4442) kept4442 (ask 0xD0 0x00 0x00 0x02 (0x05 ∷ 0x06 ∷ []))
+    ∷ on steps.missesLast (wide Sle4442) kept4442 (ask 0xD0 0x00 0x00 0x02 (0x05 ∷ 0x06 ∷ []))
     ∷ on steps.onesProtect (wide Sle4442) mem4442 (ask 0xD0 0x00 0x00 0x01 (0x05 ∷ []))
     ∷ on steps.storesPartly (wide Sle4442) kept4442 (ask 0xD0 0x00 0x00 0x02 (0x05 ∷ 0x06 ∷ []))
     ∷ on steps.storesAround (wide Sle4442) kept4442 (ask 0xD0 0x00 0x00 0x03 (0x05 ∷ 0x06 ∷ 0x07 ∷ []))
@@ -145,6 +146,8 @@ commandRows =
     ∷ at4442 commands.blockedReads 0x00 (ask 0xB0 0x00 0x00 0x01 [])
     ∷ at4442 commands.padsWithCode 0x07 readCounter
     ∷ at4442 commands.padsWithOnes 0x07 readCounter
+    ∷ at4442 commands.readsCode 0x07 readCounter
+    ∷ at4442 commands.padsShort 0x07 readCounter
     ∷ at4442 commands.readsTries 0x07 readCounter
     ∷ at4442 commands.readsBits 0x07 readCounter
     ∷ on commands.bitsFromZero (shut Sle4428) (set mem4428 1024 0xFE) (ask 0xB2 0x00 0x08 0x01 [])
@@ -195,6 +198,22 @@ codeRows =
     ∷ at4442 commands.tells63 0x07 wrong4442
     ∷ at4442 commands.tellsTries 0x07 wrong4442
     ∷ at4442 commands.tellsDone 0x07 wrong4442
+    ∷ at4442 commands.tellsCode 0x07 wrong4442
+    ∷ at4442 commands.wrongUnselects 0x07 wrong4442
+    ∷ at4442 commands.wrongPowersOff 0x07 wrong4442
+    ∷ []
+
+-- ---- the numbers of a code card
+abbrev pub numberRows : List Witness
+numberRows =
+    at4442 commands.counterBefore 0x07 wrong4442
+    ∷ on commands.counterBefore (shut Sle4428) mem4428 wrong4428
+    ∷ at4442 commands.codeBehind 0x07 right4442
+    ∷ on commands.codeBehind (shut Sle4428) mem4428 right4428
+    ∷ on commands.bitsBehind (shut Sle4442) kept4442 (ask 0xB2 0x00 0x00 0x04 [])
+    ∷ on commands.bitsBehind (shut Sle4428) (set mem4428 1024 0xFE) (ask 0xB2 0x00 0x00 0x01 [])
+    ∷ at4442 commands.coversLess 0x07 (ask 0xB2 0x00 0x00 0x04 [])
+    ∷ on commands.coversLess (shut Sle4428) mem4428 (ask 0xB2 0x03 0xF8 0x01 [])
     ∷ []
 
 -- ---- the table of cards, line by line: kind and image bytes, select type, chip page

@@ -10,4 +10,5 @@ pub mod Inputs
 pub mod MessageRows
 pub mod CommandRows
 pub mod Witnesses
+pub mod WrongRecords
 pub mod WrongPrinters

@@ -14,7 +14,7 @@ use Rattle.wrong.specs.WrongSteps.{storeAround}
 use Rattle.wrong.specs.WrongCommands.{upToUnequal, cutFrom, backwards}
 use Rattle.wrong.specs.Inputs.{shut, memI2c, plain, ask, on}
 use Rattle.wrong.specs.MessageRows.{uselessRows, trapRows, buildRows, downRows, insertionRows, removalRows, answerRows, faultRows, powerRows}
-use Rattle.wrong.specs.CommandRows.{stepOrderRows, stepRows1to5, stepRows6, stepRows7, stepRows8to10, wordRows, commandRows, pageRows, codeRows, kindRows}
+use Rattle.wrong.specs.CommandRows.{stepOrderRows, stepRows1to5, stepRows6, stepRows7, stepRows8to10, wordRows, commandRows, pageRows, codeRows, numberRows, kindRows}
 use Rattle.wrong.specs.WrongFaults as faults
 use Rattle.wrong.specs.WrongSteps as steps
 
@@ -62,6 +62,7 @@ wrongReaders =
     ++ commandRows
     ++ pageRows
     ++ codeRows
+    ++ numberRows
     ++ kindRows
     ++ slotRows
     ++ typeRows

@@ -121,6 +121,28 @@ commandingOn (Card chip) does s image m room =
 abbrev pub commanding : (Facts → Slot → List ℕ → List ℕ → Deed) → Reader
 commanding does s = commandingOn (s .holds) does s
 
+-- commands go by another row of numbers than the card's
+abbrev pub rowed : (Facts → Facts) → Reader
+rowed row = commanding λ f s image d. commanded (row f) s image d
+
+-- the row with its counter, code and protection bytes in these places, and bits for so many bytes
+abbrev pub placed : ℕ → ℕ → ℕ → ℕ → Facts → Facts
+placed counter code bits covered f = record {
+  kind = f .kind;
+  size = f .size;
+  memory = f .memory;
+  page = f .page;
+  selects = f .selects;
+  coded = f .coded;
+  full = f .full;
+  counter = counter;
+  code = code;
+  digits = f .digits;
+  bits = bits;
+  covered = covered;
+  reach = f .reach;
+}
+
 -- the order that steps 1 to 10 end in is found by `orders`
 abbrev pub ordering : (Facts → Slot → List ℕ → List ℕ → Order) → Reader
 ordering orders = commanding λ f s image d. performed f s image (body d) (orders f s image d)

@@ -12,10 +12,10 @@ use Rattle.codes.specs.Counters.{tries, spent}
 use Rattle.chips.specs.declared.Facts.{Facts}
 use Rattle.reads.specs.Reads.{bytesRead}
 use Rattle.slot.specs.declared.Slot.{Slot}
-use Rattle.slot.specs.Slots.{paged, opened, closed}
+use Rattle.slot.specs.Slots.{paged, powered, selecting, opened, closed}
 use Rattle.steps.specs.Steps.{place, p3, body}
 use Rattle.orders.specs.Orders.{Deed, done}
-use Rattle.wrong.specs.Wrong.{Reader, tells, stands, leaves, doing, atWrong, atRight, counterOf, counting}
+use Rattle.wrong.specs.Wrong.{Reader, rowed, placed, tells, stands, leaves, doing, atWrong, atRight, counterOf, counting}
 use Rattle.wrong.specs.WrongReaders.{mirrored}
 use Rattle.wrong.specs.WrongFaults.{oneMore}
 use Rattle.wrong.specs.WrongSteps.{protectionBytes}
@@ -82,6 +82,14 @@ padsWithCode = doing 0xB1 λ f s image d e. tells (take (p3 d) (drop (f .counter
 -- pads the counter of B1 with FFh
 abbrev pub padsWithOnes : Reader
 padsWithOnes = doing 0xB1 λ f s image d e. tells (counterOf f image ∷ replicate (p3 d - 1) 0xFF ++ done) e
+
+-- tells the first byte of the code at B1
+abbrev pub readsCode : Reader
+readsCode = doing 0xB1 λ f s image d e. tells (set (e .said) 0 (byte image (f .code))) e
+
+-- pads the counter of B1 with one byte fewer
+abbrev pub padsShort : Reader
+padsShort = doing 0xB1 λ f s image d e. tells (counterOf f image ∷ replicate (p3 d - 2) 0 ++ done) e
 
 -- tells the number of tries at B1
 abbrev pub readsTries : Reader
@@ -277,3 +285,33 @@ tellsTries = doing 0x20 λ f s image d e. tells (0x90 ∷ tries (counterOf f (e 
 -- tells 90 00 for every code
 abbrev pub tellsDone : Reader
 tellsDone = doing 0x20 λ f s image d e. tells done e
+
+-- answers 20 with the card's code
+abbrev pub tellsCode : Reader
+tellsCode = doing 0x20 λ f s image d e. tells (take (f .digits) (drop (f .code) image) ++ done) e
+
+-- ---- what a code leaves of the slot
+-- drops the type after a wrong code
+abbrev pub wrongUnselects : Reader
+wrongUnselects = atWrong λ f s image d e. stands (selecting 0 (e .slot)) e
+
+-- powers the card off after a wrong code
+abbrev pub wrongPowersOff : Reader
+wrongPowersOff = atWrong λ f s image d e. stands (powered false (e .slot)) e
+
+-- ---- the numbers of a code card
+-- takes the byte before the counter for the counter
+abbrev pub counterBefore : Reader
+counterBefore = rowed λ f. placed (f .counter - 1) (f .code) (f .bits) (f .covered) f
+
+-- takes the code for one byte further on
+abbrev pub codeBehind : Reader
+codeBehind = rowed λ f. placed (f .counter) (f .code + 1) (f .bits) (f .covered) f
+
+-- takes the protection bytes for one byte further on
+abbrev pub bitsBehind : Reader
+bitsBehind = rowed λ f. placed (f .counter) (f .code) (f .bits + 1) (f .covered) f
+
+-- knows of protection bits for eight bytes fewer
+abbrev pub coversLess : Reader
+coversLess = rowed λ f. placed (f .counter) (f .code) (f .bits) (f .covered - 8) f

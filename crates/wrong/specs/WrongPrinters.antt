@@ -1,5 +1,5 @@
 -- Wrong session programs, each as short as its fault, with an input on which it prints something else than the rules.
-use Prim.Native.Nat.{ℕ, zero, suc, _+_, _-_}
+use Prim.Native.Nat.{ℕ, zero, suc, _+_, _-_, _*_, _/_, _%_}
 use mathlib.Core.Bool.{Bool, true, false, not}
 use mathlib.Core.List.{List, [], _∷_, _++_, map}
 use lib.ListN.{length, take, drop, set, replicate}
@@ -89,6 +89,10 @@ upper b = leb 0x61 b and leb b 0x66 ⇒ b - 32 ⁏ b
 unfoldable pub upperCase : Mark → Outcome → List ℕ
 upperCase mark o = word mark ++ map upper (drop (length (word mark)) (lineOf mark o))
 
+-- a byte's low digit first
+unfoldable pub digitsSwapped : Mark → Outcome → List ℕ
+digitsSwapped mark o = line mark (o .number) (map (λ (b : ℕ). b % 16 * 16 + b / 16) (o .answer))
+
 -- one word for insert and removal
 unfoldable pub oneWord : Mark → Outcome → List ℕ
 oneWord Insert o = lineOf Insert o
@@ -138,6 +142,30 @@ boundLess left = lengthAt left 0 is 32769 ⇒ Bad ⁏ firstRecord left
 -- a cut header is the end of the input
 unfoldable pub cutHeaderEnds : List ℕ → Record
 cutHeaderEnds left = ltb (length left) 4 ⇒ End ⁏ firstRecord left
+
+-- what is there of a cut body is taken for a message
+unfoldable pub cutIsWhole : Record → List ℕ → Record
+cutIsWhole (Whole mark start end) left = Whole mark start end
+cutIsWhole Cut left = ltb (length left) 4 ⇒ Cut ⁏ Whole Message 4 (length left)
+cutIsWhole Bad left = Bad
+cutIsWhole End left = End
+
+unfoldable pub takesCutBody : List ℕ → Record
+takesCutBody left = cutIsWhole (firstRecord left) left
+
+-- a record that ends with the input is cut
+unfoldable pub endIsCut : List ℕ → Record
+endIsCut left = firstRecord (take (length left - 1) left)
+
+-- a body has a byte more than its length says
+unfoldable pub bodyOneMore : List ℕ → Record
+bodyOneMore left = firstRecord (set left 2 (byte left 2 + 1))
+
+-- a message is taken for an insert
+unfoldable pub messageInserts : Mark → List ℕ → Slot → List ℕ → Outcome
+messageInserts Insert body s image = comesOf Insert body s image
+messageInserts Remove body s image = comesOf Remove body s image
+messageInserts Message body s image = comesOf Insert body s image
 
 -- a removal that asks for a card
 unfoldable pub asksForCard : Mark → List ℕ → Slot → List ℕ → Outcome
@@ -200,6 +228,7 @@ wrongPrinters =
     ∷ (sayingBy answersAll on message [])
     ∷ (sayingBy answersNone on status)
     ∷ (sayingBy upperCase on powerRecord)
+    ∷ (sayingBy digitsSwapped on powerRecord)
     ∷ (sayingBy oneWord on remove)
     ∷ (leavingBy badAtEnd on remove)
     ∷ (leavingBy nothingAtCut on 0x43 ∷ 0x4F ∷ [])
@@ -210,6 +239,10 @@ wrongPrinters =
     ∷ (readingBy (takingBody 0x4F4D Message) on message (replicate 32770 0))
     ∷ (readingBy boundLess on message (replicate 32769 0))
     ∷ (readingBy cutHeaderEnds on 0x43 ∷ 0x4F ∷ [])
+    ∷ (readingBy takesCutBody on 0x4F ∷ 0x4D ∷ 0x02 ∷ 0x00 ∷ 0x65 ∷ [])
+    ∷ (readingBy endIsCut on status)
+    ∷ (readingBy bodyOneMore on status ++ remove)
+    ∷ (doneBy messageInserts on message [])
     ∷ (doneBy asksForCard on remove)
     ∷ (doneBy keepsRefused on insert 1 (image1 0) ++ powerRecord ++ selectRecord ++ insert 1 (image1 1) ++ read3)
     ∷ (doneBy kindInImage on insert 1 (image1 0) ++ powerRecord ++ selectRecord ++ read3)
@@ -222,9 +255,9 @@ wrongPrinters =
 
 -- all faults at once, for the theorem that computes the table
 unfoldable pub printFaults : ℕ
-unfolding zeroes answersAll answersNone upper upperCase oneWord badAtEnd nothingAtCut nothingAtBad highFirst noEmpty emptyInsertBad takingBody
+unfolding zeroes answersAll answersNone upper upperCase digitsSwapped oneWord badAtEnd nothingAtCut nothingAtBad highFirst noEmpty emptyInsertBad takingBody
 printFaults = 0
 
 unfoldable pub morePrintFaults : ℕ
-unfolding going by printer printerCaught printerUncaught boundLess cutHeaderEnds asksForCard keepsRefused kindInImage slotForgotten imageForgotten pastBad goesOn
+unfolding going by printer printerCaught printerUncaught boundLess cutHeaderEnds cutIsWhole takesCutBody endIsCut bodyOneMore messageInserts asksForCard keepsRefused kindInImage slotForgotten imageForgotten pastBad goesOn
 morePrintFaults = 0

@@ -270,6 +270,11 @@ abbrev pub looksAtFirst : Reader
 looksAtFirst = letting Status.Denied λ f s image d.
     s .«open» and byte d 1 is 0xD0 and not (isProtected (f .bits) (f .covered) image (place d))
 
+-- does not look at the protection of the last byte
+abbrev pub missesLast : Reader
+missesLast = letting Status.Denied λ f s image d.
+    s .«open» and byte d 1 is 0xD0 and not (hitsProtected f Write image (place d) (p3 d - 1))
+
 -- takes a protection bit of 1 for protected
 abbrev pub onesProtect : Reader
 onesProtect = ordering λ f s image d. order f s (sets image (f .bits) (map (λ (b : ℕ). 0xFF - b) (protectionBytes f image))) d
