@@ -15,6 +15,7 @@ ghost use Rattle.words.specs.Bounds.{leastTail};
 ghost use Rattle.chips.specs.Kinds.{facts};
 ghost use Rattle.orders.specs.Orders.{Does, performed};
 
+// D0: a code card stores the bytes, an I2C card writes them by pages.
 pub fn write(
     chip: Chip,
     slot: Slot,
@@ -31,6 +32,7 @@ pub fn write(
     Told { len, slot }
 }
 
+// D1: each byte that is equal to the stored one is protected.
 pub fn protect(
     chip: Chip,
     slot: Slot,
@@ -47,6 +49,7 @@ pub fn protect(
     Told { len, slot }
 }
 
+// 20: the code is presented, and 90 is told with the counter afterwards. The right code opens, any other closes.
 pub fn present(chip: Chip, slot: Slot, image: &mut [u8], guess: &[u8], out: &mut [u8]) -> Told
     requires { ⌜ (leastTail ≤ length (now out)) × (length (now image) ≡ facts chip .size) × (facts chip .coded ≡ true) × (length (now guess) ≡ facts chip .digits) ⌝ }
     ensures { λ r. ⌜ Does (performed (facts chip) slot (now (image .entry)) (now (guess .entry)) Order.Present) r (now (image .exit)) (now (out .entry)) (now (out .exit)) ⌝ }
@@ -62,6 +65,7 @@ pub fn present(chip: Chip, slot: Slot, image: &mut [u8], guess: &[u8], out: &mut
     Told { len, slot: next }
 }
 
+// D2: the new code is stored, and the card stays open.
 pub fn change(chip: Chip, slot: Slot, image: &mut [u8], code: &[u8], out: &mut [u8]) -> Told
     requires { ⌜ (leastTail ≤ length (now out)) × (length (now image) ≡ facts chip .size) × (length (now code) ≡ facts chip .digits) ⌝ }
     ensures { λ r. ⌜ Does (performed (facts chip) slot (now (image .entry)) (now (code .entry)) Order.Change) r (now (image .exit)) (now (out .entry)) (now (out .exit)) ⌝ }

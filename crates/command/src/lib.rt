@@ -14,6 +14,7 @@ ghost use Rattle.chips.specs.Kinds.{facts};
 ghost use Rattle.steps.specs.Fits.{Fit, Short};
 ghost use Rattle.orders.specs.Orders.{Does, performed, commanded};
 
+// The handler of an order.
 fn perform(
     order: Order,
     chip: Chip,

@@ -18,6 +18,7 @@ ghost use Rattle.sound.specs.Sound.{imageIsCard};
 ghost use Rattle.faults.specs.Faults.{Transfer, Unsupported, typeByte, requestOf};
 ghost use Rattle.frame.specs.Exchange.{reply, Gives};
 
+// 6Fh: the pseudo-APDU goes to the card that is in.
 fn transfer(slot: Slot, image: &mut [u8], msg: &[u8], answer: &mut [u8]) -> Reply
     requires { ⌜ (10 ≤ length (now msg)) × (leastRoom ≤ length (now answer)) × (imageIsCard (slot .holds) (now image) ≡ true) × (0 < slot .page) ⌝ }
     ensures { λ r. ⌜ Gives (reply Transfer slot (now (image .entry)) (now (msg .entry))) r (now (image .exit)) (now (answer .entry)) (now (answer .exit)) ⌝ }
@@ -36,6 +37,7 @@ fn transfer(slot: Slot, image: &mut [u8], msg: &[u8], answer: &mut [u8]) -> Repl
     seal(0x80, fault, len, next, msg, answer)
 }
 
+// A type that is not supported.
 fn unsupported(slot: Slot, msg: &[u8], answer: &mut [u8]) -> Reply
     requires { ⌜ (10 ≤ length (now msg)) × (leastRoom ≤ length (now answer)) ⌝ }
     ensures { λ r. ⌜ ((image : List ℕ) → Gives (reply Unsupported slot image (now (msg .entry))) r image (now (answer .entry)) (now (answer .exit))) ⌝ }

@@ -104,6 +104,7 @@ fn is_ready(message_type: u8, slot: Slot) -> bool
 
 // ---- the chain
 
+// Whether nothing is wrong.
 pub fn is_clear(fault: Fault) -> bool
     ensures { λ r. ⌜ r ≡ isClear fault ⌝ }
 {

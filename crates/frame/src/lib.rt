@@ -71,6 +71,7 @@ impl Verdict {
 
 // ---- the header
 
+// bError.
 fn error_of(fault: Fault) -> u8
     ensures { λ r. ⌜ r ≡ bError fault ⌝ }
 {
@@ -101,6 +102,7 @@ fn state_of(bslot: u8, slot: Slot) -> u8
     1
 }
 
+// bStatus: the card state, and 40h when failed.
 fn status_of(fault: Fault, state: u8) -> u8
     requires { ⌜ state < 3 ⌝ }
     ensures { λ r. ⌜ r ≡ bStatus fault state ⌝ }
@@ -111,6 +113,7 @@ fn status_of(fault: Fault, state: u8) -> u8
     state + 0x40
 }
 
+// Byte 9.
 fn last_of(answer_type: u8, state: u8) -> u8
     ensures { λ r. ⌜ r ≡ byte9 «answer_type» state ⌝ }
 {

@@ -40,7 +40,7 @@ fn write_place(chip: Chip, at: usize, p: usize) -> bool
     chip.facts().counter < at
 }
 
-// The first protected byte in the range refuses the write.
+// D0: the first protected byte in the range refuses the write.
 pub fn write_order(chip: Chip, slot: Slot, image: &[u8], n: usize, at: usize, p: usize) -> Order
     requires { ⌜ (at < addresses) × (p < 256) × (length (now image) ≡ facts chip .size) ⌝ }
     ensures { λ r. ⌜ ((v : ℕ) → r ≡ steps (facts chip) slot (now (image .entry)) n at p v Write) ⌝ }
@@ -67,6 +67,7 @@ pub fn write_order(chip: Chip, slot: Slot, image: &[u8], n: usize, at: usize, p:
     }
 }
 
+// D1.
 pub fn protect_order(chip: Chip, slot: Slot, n: usize, at: usize, p: usize) -> Order
     requires { ⌜ (at < addresses) × (p < 256) ⌝ }
     ensures { λ r. ⌜ ((image : List ℕ) (v : ℕ) → r ≡ steps (facts chip) slot image n at p v Protect) ⌝ }
@@ -92,6 +93,7 @@ pub fn protect_order(chip: Chip, slot: Slot, n: usize, at: usize, p: usize) -> O
     Order::Protect(at)
 }
 
+// 20.
 pub fn present_order(chip: Chip, slot: Slot, n: usize, at: usize, p: usize) -> Order
     requires { ⌜ p < 256 ⌝ }
     ensures { λ r. ⌜ ((image : List ℕ) (v : ℕ) → r ≡ steps (facts chip) slot image n at p v Present) ⌝ }
@@ -124,6 +126,7 @@ fn has_change(chip: Chip) -> bool
     chip.facts().selects == 0x06
 }
 
+// D2.
 pub fn change_order(chip: Chip, slot: Slot, n: usize, at: usize, p: usize) -> Order
     requires { ⌜ p < 256 ⌝ }
     ensures { λ r. ⌜ ((image : List ℕ) (v : ℕ) → r ≡ steps (facts chip) slot image n at p v Change) ⌝ }

@@ -29,6 +29,7 @@ struct Word {
     low: u8,
 }
 
+// The status word of a refusal.
 fn word_of(status: Status) -> Word
     ensures { λ r. ⌜ wordOf status ≡ r .high ∷ r .low ∷ [] ⌝ }
 {
@@ -64,6 +65,7 @@ fn word_of(status: Status) -> Word
     }
 }
 
+// A command that is refused says its status word and changes nothing.
 pub fn refuse(status: Status, slot: Slot, out: &mut [u8]) -> Told
     requires { ⌜ leastTail ≤ length (now out) ⌝ }
     ensures { λ r. ⌜ ((f : Facts) (image b : List ℕ) → Does (performed f slot image b (Order.Refuse status)) r image (now (out .entry)) (now (out .exit))) ⌝ }
@@ -73,6 +75,7 @@ pub fn refuse(status: Status, slot: Slot, out: &mut [u8]) -> Told
     Told { len, slot }
 }
 
+// A4: the card's type is selected, and the card closed.
 pub fn select(chip: Chip, slot: Slot, out: &mut [u8]) -> Told
     requires { ⌜ leastTail ≤ length (now out) ⌝ }
     ensures { λ r. ⌜ ((image b : List ℕ) → Does (performed (facts chip) slot image b Order.Select) r image (now (out .entry)) (now (out .exit))) ⌝ }
@@ -82,6 +85,7 @@ pub fn select(chip: Chip, slot: Slot, out: &mut [u8]) -> Told
     Told { len, slot: next }
 }
 
+// 01: the reader page.
 pub fn set_page(page: u8, slot: Slot, out: &mut [u8]) -> Told
     requires { ⌜ leastTail ≤ length (now out) ⌝ }
     ensures { λ r. ⌜ ((f : Facts) (image b : List ℕ) → Does (performed f slot image b (Order.Page page)) r image (now (out .entry)) (now (out .exit))) ⌝ }
@@ -91,6 +95,7 @@ pub fn set_page(page: u8, slot: Slot, out: &mut [u8]) -> Told
     Told { len, slot: next }
 }
 
+// B0: the bytes, a closed card's code as 00h.
 pub fn read(chip: Chip, slot: Slot, image: &[u8], at: usize, n: usize, out: &mut [u8]) -> Told
     requires { ⌜ (leastTail ≤ length (now out)) × (at + n ≤ length (now image)) × (n ≤ 255) ⌝ }
     ensures { λ r. ⌜ ((b : List ℕ) → Does (performed (facts chip) slot (now (image .entry)) b (Order.Read at n)) r (now (image .entry)) (now (out .entry)) (now (out .exit))) ⌝ }
@@ -108,6 +113,7 @@ pub fn read(chip: Chip, slot: Slot, image: &[u8], at: usize, n: usize, out: &mut
     Told { len, slot }
 }
 
+// B1: the counter, and 00h behind it.
 pub fn read_counter(chip: Chip, slot: Slot, image: &[u8], n: usize, out: &mut [u8]) -> Told
     requires { ⌜ (leastTail ≤ length (now out)) × (facts chip .counter < length (now image)) × (3 ≤ n) × (n ≤ 4) ⌝ }
     ensures { λ r. ⌜ ((b : List ℕ) → Does (performed (facts chip) slot (now (image .entry)) b (Order.Counter n)) r (now (image .entry)) (now (out .entry)) (now (out .exit))) ⌝ }
@@ -117,6 +123,7 @@ pub fn read_counter(chip: Chip, slot: Slot, image: &[u8], n: usize, out: &mut [u
     Told { len, slot }
 }
 
+// B2: protection bits, packed.
 pub fn read_bits(chip: Chip, slot: Slot, image: &[u8], at: usize, n: usize, out: &mut [u8]) -> Told
     requires { ⌜ (leastTail ≤ length (now out)) × (length (now image) ≡ facts chip .size) × (at + 8 * n ≤ facts chip .covered) × (n ≤ 32) ⌝ }
     ensures { λ r. ⌜ ((b : List ℕ) → Does (performed (facts chip) slot (now (image .entry)) b (Order.Bits at n)) r (now (image .entry)) (now (out .entry)) (now (out .exit))) ⌝ }

@@ -19,6 +19,7 @@ pub fn store(image: &mut [u8], at: usize, data: &[u8])
     lay(data, &mut image[at..]);
 }
 
+// Where the cut starts that address a is in, the one before having started at c.
 fn cut_start(reader: usize, c: usize, a: usize) -> usize
     requires { ⌜ 0 < reader ⌝ }
     ensures { λ r. ⌜ r ≡ cutStart reader c a ⌝ }
@@ -26,6 +27,7 @@ fn cut_start(reader: usize, c: usize, a: usize) -> usize
     if a % reader == 0 { a } else { c }
 }
 
+// Where the byte for address a lands, in a cut that starts at c.
 fn landing(chip: usize, c: usize, a: usize) -> usize
     requires { ⌜ (0 < chip) × (chip < addresses) × (c ≤ a) × (a < addresses) ⌝ }
     ensures { λ r. ⌜ r ≡ lands chip c a ⌝ }

@@ -38,6 +38,7 @@ fn answer_to_reset(chip: Chip, image: &[u8], out: &mut [u8]) -> usize
     6
 }
 
+// 62h.
 pub fn power_on(slot: Slot, image: &[u8], msg: &[u8], answer: &mut [u8]) -> Reply
     requires { ⌜ (10 ≤ length (now msg)) × (leastRoom ≤ length (now answer)) × (imageIsCard (slot .holds) (now image) ≡ true) ⌝ }
     ensures { λ r. ⌜ Gives (reply PowerOn slot (now (image .entry)) (now (msg .entry))) r (now (image .entry)) (now (answer .entry)) (now (answer .exit)) ⌝ }
@@ -55,6 +56,7 @@ pub fn power_on(slot: Slot, image: &[u8], msg: &[u8], answer: &mut [u8]) -> Repl
     seal(0x80, fault, len, next, msg, answer)
 }
 
+// 63h.
 pub fn power_off(slot: Slot, msg: &[u8], answer: &mut [u8]) -> Reply
     requires { ⌜ (10 ≤ length (now msg)) × (leastRoom ≤ length (now answer)) ⌝ }
     ensures { λ r. ⌜ ((image : List ℕ) → Gives (reply PowerOff slot image (now (msg .entry))) r image (now (answer .entry)) (now (answer .exit))) ⌝ }
@@ -67,6 +69,7 @@ pub fn power_off(slot: Slot, msg: &[u8], answer: &mut [u8]) -> Reply
     seal(0x81, fault, 0, next, msg, answer)
 }
 
+// 65h.
 pub fn slot_status(slot: Slot, msg: &[u8], answer: &mut [u8]) -> Reply
     requires { ⌜ (10 ≤ length (now msg)) × (leastRoom ≤ length (now answer)) ⌝ }
     ensures { λ r. ⌜ ((image : List ℕ) → Gives (reply SlotStatus slot image (now (msg .entry))) r image (now (answer .entry)) (now (answer .exit))) ⌝ }

@@ -40,7 +40,8 @@ put4428 = record { coded = refl; known = refl; accepted = refl }
 
 -- every row of the table
 pub visits-hold : unlike 1 visits ≡ 0
-unfolding rules ones heard reached rightNow eventOf history wrongs left account triesLeft lent image4442 image4428 transfer sameEvents asSaid unlike with4442 with4428 visits
+unfolding rules ones heard reached rightNow eventOf history wrongs left account triesLeft lent image4442 image4428 transfer sameEvents asSaid unlike
+    with4442 with4428 visits
 visits-hold = refl
 
 -- after three wrong codes not a byte changes any more

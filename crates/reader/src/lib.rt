@@ -22,6 +22,7 @@ pub enum Meant {
     Slot(u8),
 }
 
+// A message or insertion that is turned down keeps the slot as it is.
 fn turn_down(refusal: Refusal, slot: Slot) -> Reply
     ensures { λ r. ⌜ (r .verdict ≡ Verdict.Refused refusal) × (r .slot ≡ slot) ⌝ }
 {

@@ -25,6 +25,7 @@ pub enum Reading {
 
 // ---- writing
 
+// The kind byte.
 fn kind_of(holds: Holds) -> u8
     ensures { λ r. ⌜ r ≡ kindOf holds ⌝ }
 {
@@ -34,6 +35,7 @@ fn kind_of(holds: Holds) -> u8
     }
 }
 
+// A byte of 0 or 1.
 fn flag_of(flag: bool) -> u8
     ensures { λ r. ⌜ r ≡ flagOf flag ⌝ }
 {

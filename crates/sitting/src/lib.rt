@@ -75,6 +75,7 @@ fn insert(body: &[u8], slot: Slot, size: usize, image: &mut [u8]) -> Done
     put_in(body[0], &body[1..], slot, size, image)
 }
 
+// A removal: nothing is held any more.
 fn remove(slot: Slot) -> Done
     ensures { λ r. ⌜ (r .number ≡ 0) × (r .len ≡ 0) × (r .held .slot ≡ removed) × (r .held .size ≡ 0) ⌝ }
 {
@@ -89,6 +90,7 @@ fn remove(slot: Slot) -> Done
     }
 }
 
+// A message, on the slot and image that are held.
 fn message(body: &[u8], slot: Slot, size: usize, image: &mut [u8], answer: &mut [u8]) -> Done
     requires { ⌜ size ≤ length (now image) ⌝ }
     ensures { λ r. ⌜ Leaves (exchange slot (take size (now (image .entry))) (now (body .entry)) (length (now (answer .entry)))) r (now (image .entry))

@@ -78,6 +78,7 @@ impl Slot {
         self
     }
 
+    // The reader page.
     pub fn set_page(mut self, page: u8) -> Slot
         ensures { λ r. ⌜ r ≡ paged page self ⌝ }
     {
@@ -85,6 +86,7 @@ impl Slot {
         self
     }
 
+    // Open or closed.
     fn set_open(mut self, open: bool) -> Slot
         ensures { λ r. ⌜ r ≡ openAs «open» self ⌝ }
     {
@@ -92,12 +94,14 @@ impl Slot {
         self
     }
 
+    // Open.
     pub fn open(self) -> Slot
         ensures { λ r. ⌜ r ≡ opened self ⌝ }
     {
         self.set_open(true)
     }
 
+    // Closed.
     pub fn close(self) -> Slot
         ensures { λ r. ⌜ r ≡ closed self ⌝ }
     {

@@ -38,6 +38,7 @@ pub enum Order {
     Change,
 }
 
+// A4.
 pub fn select_order(chip: Chip, slot: Slot, n: usize, at: usize, p: usize, v: u8) -> Order
     requires { ⌜ p < 256 ⌝ }
     ensures { λ r. ⌜ ((image : List ℕ) → r ≡ steps (facts chip) slot image n at p v Select) ⌝ }
@@ -57,6 +58,7 @@ pub fn select_order(chip: Chip, slot: Slot, n: usize, at: usize, p: usize, v: u8
     Order::Select
 }
 
+// 01.
 pub fn page_order(chip: Chip, slot: Slot, n: usize, at: usize, p: usize, v: u8) -> Order
     requires { ⌜ p < 256 ⌝ }
     ensures { λ r. ⌜ ((image : List ℕ) → r ≡ steps (facts chip) slot image n at p v Page) ⌝ }
@@ -85,6 +87,7 @@ pub fn page_order(chip: Chip, slot: Slot, n: usize, at: usize, p: usize, v: u8) 
     Order::Page(1u8 << v)
 }
 
+// B0.
 pub fn read_order(chip: Chip, slot: Slot, n: usize, at: usize, p: usize) -> Order
     requires { ⌜ (at < addresses) × (p < 256) ⌝ }
     ensures { λ r. ⌜ ((image : List ℕ) (v : ℕ) → r ≡ steps (facts chip) slot image n at p v Read) ⌝ }
@@ -104,6 +107,7 @@ pub fn read_order(chip: Chip, slot: Slot, n: usize, at: usize, p: usize) -> Orde
     Order::Read { at, count: p }
 }
 
+// B1.
 pub fn counter_order(chip: Chip, slot: Slot, n: usize, at: usize, p: usize) -> Order
     ensures { λ r. ⌜ ((image : List ℕ) (v : ℕ) → r ≡ steps (facts chip) slot image n at p v Counter) ⌝ }
 {
@@ -138,6 +142,7 @@ fn bits_length(chip: Chip, p: usize) -> bool
     p <= 32
 }
 
+// B2.
 pub fn bits_order(chip: Chip, slot: Slot, n: usize, at: usize, p: usize) -> Order
     requires { ⌜ (at < addresses) × (p < 256) ⌝ }
     ensures { λ r. ⌜ ((image : List ℕ) (v : ℕ) → r ≡ steps (facts chip) slot image n at p v Bits) ⌝ }

@@ -62,7 +62,8 @@ each-raw-refuted k (w ∷ ws) e = let t = none-left k (rawCaught w) (rawUncaught
 
 -- ---- the table
 pub records-caught : rawUncaught 1 wrongRecords ≡ 0
-unfolding rules rawOf blank slotWith cardWith slotOf frontOf keeping brokenAs rawServed rawExchange rawInsertion rawRemoval selectedSlot image4442 transfer rawTests
+unfolding rules rawOf blank slotWith cardWith slotOf frontOf keeping brokenAs rawServed rawExchange rawInsertion rawRemoval selectedSlot image4442
+    transfer rawTests
 records-caught = refl
 
 pub records-refuted : EachRawRefuted wrongRecords

@@ -259,5 +259,6 @@ unfolding zeroes answersAll answersNone upper upperCase digitsSwapped oneWord ba
 printFaults = 0
 
 unfoldable pub morePrintFaults : ℕ
-unfolding going by printer printerCaught printerUncaught boundLess cutHeaderEnds cutIsWhole takesCutBody endIsCut bodyOneMore messageInserts asksForCard keepsRefused kindInImage slotForgotten imageForgotten pastBad goesOn
+unfolding going by printer printerCaught printerUncaught boundLess cutHeaderEnds cutIsWhole takesCutBody endIsCut bodyOneMore messageInserts
+    asksForCard keepsRefused kindInImage slotForgotten imageForgotten pastBad goesOn
 morePrintFaults = 0

@@ -21,8 +21,7 @@ returns : tie.Need-returns
 returns c =
     let at-insert = c .before .before .before in
     let start = at-insert .before .before .before .before in
-    let a =
-    start .args in returns-number (at-insert .insert .ensures) (insertion-short (a .raw .now) (a .kind) (a .image .now)) (c .result-of .ensures)
+    let a = start .args in returns-number (at-insert .insert .ensures) (insertion-short (a .raw .now) (a .kind) (a .image .now)) (c .result-of .ensures)
 
 pub card-reader-insert-spec : {M : Type 1} → statement M
 card-reader-insert-spec =

@@ -39,8 +39,8 @@ present-requires c κs =
 alike : {A : Type 0} {x x′ y y′ z z′ w w′ : ℕ} → x ≡ x′ → y ≡ y′ → z ≡ z′ → w ≡ w′ → (g : ℕ → ℕ → ℕ → ℕ → A) → g x y z w ≡ g x′ y′ z′ w′
 alike p q r s g = cc
 
-numbers : {A : Type 0} (p : tie.After-present) (g : ℕ → ℕ → ℕ → ℕ → A) → let a =
-    p .before .before .before .before .before .before .before .before .args in let f = facts (a .chip) in
+numbers : {A : Type 0} (p : tie.After-present) (g : ℕ → ℕ → ℕ → ℕ → A) → let a = p .before .before .before .before .before .before .before .before .args in
+    let f = facts (a .chip) in
     g (p .before .before .before .before .facts .result .counter) (p .before .before .facts2 .result .full) (p .before .facts3 .result .code)
     (length (a .guess .now))
     ≡ g (f .counter) (f .full) (f .code) (f .digits)
@@ -50,16 +50,16 @@ numbers p g =
     alike (ap (λ (f : Facts). f .counter) (at-facts .facts .ensures)) (ap (λ (f : Facts). f .full) (p .before .before .facts2 .ensures))
     (ap (λ (f : Facts). f .code) (p .before .facts3 .ensures)) (start .pre .3) g
 
-after : (p : tie.After-present) → let a =
-    p .before .before .before .before .before .before .before .before .args in p .present .last .0
+after : (p : tie.After-present) → let a = p .before .before .before .before .before .before .before .before .args in
+    p .present .last .0
     ≡ afterCode (facts (a .chip)) (a .image .now) (a .guess .now)
 after p =
     let start = p .before .before .before .before .before .before .before .before in
     let a = start .args in
     p .present .ensures .1 ∙ numbers p (λ x y z w. presenting x y z w (a .image .now) (a .guess .now))
 
-right : (p : tie.After-present) → let a =
-    p .before .before .before .before .before .before .before .before .args in rightCode (facts (a .chip)) (a .image .now) (a .guess .now)
+right : (p : tie.After-present) → let a = p .before .before .before .before .before .before .before .before .args in
+    rightCode (facts (a .chip)) (a .image .now) (a .guess .now)
     ≡ p .present .result
 right p =
     let start = p .before .before .before .before .before .before .before .before in

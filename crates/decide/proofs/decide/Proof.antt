@@ -67,8 +67,8 @@ change-order-requires : tie.Need-change-order-requires
 change-order-requires c κs = search needs
 
 -- an arm: its handler's steps are those of the pseudo-APDU, INS being the arm's
-arm : (d : tie.After-byte-at) (i : Ins) (v : ℕ) {r : Order} → let a =
-    d .before .before .before .before .before .before .before .before .args in v ≡ byte (a .apdu .now) 5 → insOf (byte (a .apdu .now) 1) ≡ i
+arm : (d : tie.After-byte-at) (i : Ins) (v : ℕ) {r : Order} → let a = d .before .before .before .before .before .before .before .before .args in
+    v ≡ byte (a .apdu .now) 5 → insOf (byte (a .apdu .now) 1) ≡ i
     → r ≡ steps (facts (a .chip)) (a .slot) (a .image .now) (length (a .apdu .now)) (d .before .before .before .place-of .result)
     (d .before .wide .result) v i
     → r ≡ order (facts (a .chip)) (a .slot) (a .image .now) (a .apdu .now)
@@ -117,8 +117,8 @@ unfolding insOf _⇒_⁏_
 returns-10 c = arm (c .before .before .before) Change _ refl (ap insOf (c .before .match .keys9)) (c .change-order .ensures _ _)
 
 -- any other INS
-none : (d : tie.After-byte-at) → let a =
-    d .before .before .before .before .before .before .before .before .args in insOf (byte (a .apdu .now) 1) ≡ Other
+none : (d : tie.After-byte-at) → let a = d .before .before .before .before .before .before .before .before .args in
+    insOf (byte (a .apdu .now) 1) ≡ Other
     → Order.Refuse Status.Instruction ≡ order (facts (a .chip)) (a .slot) (a .image .now) (a .apdu .now)
 unfolding steps _⇒_⁏_
 none d o =

@@ -13,8 +13,8 @@ on1 c = free1 (sym (c .before .is-supported .ensures) ∙ not-false _ (c .if1 .l
 on2 : (c : tie.Else2) → let a = c .before .before .before .before .before .args in Free2 (requestOf (a .message-type)) (a .slot) (a .msg .now)
 on2 c = free2 (on1 (c .before .before)) (sym (c .before .four-at .ensures) ∙ c .if2 .left)
 
-on-type : (c : tie.Else3) → let a =
-    c .before .before .before .before .before .before .before .args in FreeType (requestOf (a .message-type)) (a .slot) (a .msg .now)
+on-type : (c : tie.Else3) → let a = c .before .before .before .before .before .before .before .args in
+    FreeType (requestOf (a .message-type)) (a .slot) (a .msg .now)
 on-type c =
     let at-four-at = c .before .before .before in
     let start = at-four-at .before .before .before .before in
@@ -25,8 +25,8 @@ on-type c =
 on3 : (c : tie.Else4) → let a = c .before .before .before .before .before .before .before .before .before .args in Free3 (requestOf (a .message-type)) (a .slot) (a .msg .now)
 on3 c = free3 (on-type (c .before .before)) (c .if4 .left)
 
-on4 : (c : tie.Else5) → let a =
-    c .before .before .before .before .before .before .before .before .before .before .before .before .args in Free4 (requestOf (a .message-type))
+on4 : (c : tie.Else5) → let a = c .before .before .before .before .before .before .before .before .before .before .before .before .args in
+    Free4 (requestOf (a .message-type))
     (a .slot) (a .msg .now)
 on4 c =
     free4 (on3 (c .before .before .before))

@@ -22,8 +22,8 @@ on6 c = past6 (on5 (c .before)) (c .if3 .left)
 onP3 : (c : tie.Else4) → let a = c .before .before .before .before .before .before .before .before .args in PastP3 (facts (a .chip)) (a .slot) (a .n) (a .at) (a .p) Change
 onP3 c = pastP3 (on6 (c .before .before .before)) (eq-eqb _ _ (c .if4 .left ∙ ap (λ (f : Facts). f .digits) (c .before .before .facts .ensures)))
 
-on8 : (c : tie.Else5) (v : ℕ) → let a =
-    c .before .before .before .before .before .before .before .before .before .args in Past8 (facts (a .chip)) (a .slot) (a .n) (a .at)
+on8 : (c : tie.Else5) (v : ℕ) → let a = c .before .before .before .before .before .before .before .before .before .args in
+    Past8 (facts (a .chip)) (a .slot) (a .n) (a .at)
     (a .p) Change v
 on8 c v =
     past8 (past7 (onP3 (c .before)) (eq-eqb _ 1 (c .if5 .left))) v refl

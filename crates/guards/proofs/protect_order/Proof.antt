@@ -24,8 +24,8 @@ on6 c = past6 (on5 (c .before)) (c .if3 .left)
 onP3 : (c : tie.Else4) → let a = c .before .before .before .before .before .before .before .args in PastP3 (facts (a .chip)) (a .slot) (a .n) (a .at) (a .p) Protect
 onP3 c = pastP3 (on6 (c .before)) (le-leb 1 _ (c .if4 .left))
 
-on8 : (c : tie.Else5) (v : ℕ) → let a =
-    c .before .before .before .before .before .before .before .before .before .before .args in Past8 (facts (a .chip)) (a .slot) (a .n) (a .at)
+on8 : (c : tie.Else5) (v : ℕ) → let a = c .before .before .before .before .before .before .before .before .before .before .args in
+    Past8 (facts (a .chip)) (a .slot) (a .n) (a .at)
     (a .p) Protect v
 on8 c v =
     let start = c .before .before .before .before .before .before .before .before .before .before in

@@ -25,8 +25,8 @@ onP3 c = pastP3 (on6 (c .before)) (le-leb 1 _ (c .if3 .left))
 on8 : (c : tie.Else4) (v : ℕ) → let a = c .before .before .before .before .before .before .before .args in Past8 (facts (a .chip)) (a .slot) (a .n) (a .at) (a .p) Write v
 on8 c v = past8 (past7 (onP3 (c .before .before)) (sym (c .before .write-place .ensures) ∙ not-false _ (c .if4 .left))) v refl
 
-on9 : (c : tie.Else5) (v : ℕ) → let a =
-    c .before .before .before .before .before .before .before .before .before .args in Past9 (facts (a .chip)) (a .slot) (a .n) (a .at) (a .p) Write v
+on9 : (c : tie.Else5) (v : ℕ) → let a = c .before .before .before .before .before .before .before .before .before .args in
+    Past9 (facts (a .chip)) (a .slot) (a .n) (a .at) (a .p) Write v
 on9 c v =
     past9 (on8 (c .before .before) v) (sym (c .before .locked .ensures) ∙ c .if5 .left)
 
