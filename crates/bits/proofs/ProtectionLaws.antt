@@ -32,10 +32,6 @@ module _ (bits covered : ℕ) where
   unfolding protectionBit
   bit-beyond image k h = rest _ _ (le-ltb k covered h)
 
-  pub bit-small : (image : List ℕ) (k : ℕ) → protectionBit bits covered image k < 2
-  unfolding protectionBit
-  bit-small image k = either (λ (n : ℕ). n < 2) _ (λ _. omega arith) (λ _. omega arith)
-
   pub protected-covered : (image : List ℕ) (k : ℕ) → k < covered → isProtected bits covered image k ≡ (bitOf (byte image (bits + k / 8)) (k % 8) is 0)
   unfolding isProtected
   protected-covered image k h = ap (λ (n : ℕ). n is 0) (bit-covered image k h)

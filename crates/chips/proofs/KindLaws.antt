@@ -6,7 +6,7 @@ use Prim.Native.Nat.{_+_, _/_, _%_, _≤_, _<_}
 use lib.Dec.{leb, ltb}
 use borrow.Author.Tests.{eqb-true, leb-true, ltb-true, lt-ltb}
 use Rattle.words.specs.Choice.{_and_, _or_, _means_, _is_}
-use Rattle.words.specs.Bounds.{addresses, largest}
+use Rattle.words.specs.Bounds.{largest}
 use Rattle.words.proofs.Choices.{or-true}
 use Rattle.chips.specs.Kinds.{facts}
 use Rattle.chips.specs.declared.Chip.{Chip}
@@ -20,14 +20,11 @@ pub record Laid (f : Facts) : Type 0 where
   pub front : f .memory ≤ f .size
   pub four : 4 ≤ f .size
   pub paged : f .page ≤ f .size
-  pub tally : f .counter + f .digits ≤ f .size
   pub codes : f .code + f .digits ≤ f .size
   pub digits : f .digits ≤ 3
   pub guards : f .bits + (f .covered + 7) / 8 ≤ f .size
   pub kept : f .covered ≤ f .memory
-  pub span : f .bits + f .covered < addresses
   pub reached : f .reach ≤ f .covered
-  pub typed : 0 < f .selects
   pub small : f .full < 256
 
 pub laid : (chip : Chip) → Laid (facts chip)
@@ -38,14 +35,11 @@ laid chip = record {
   front = leb-true _ _ (each (λ (f : Facts). leb (f .memory) (f .size)) refl chip);
   four = leb-true _ _ (each (λ (f : Facts). leb 4 (f .size)) refl chip);
   paged = leb-true _ _ (each (λ (f : Facts). leb (f .page) (f .size)) refl chip);
-  tally = leb-true _ _ (each (λ (f : Facts). leb (f .counter + f .digits) (f .size)) refl chip);
   codes = leb-true _ _ (each (λ (f : Facts). leb (f .code + f .digits) (f .size)) refl chip);
   digits = leb-true _ _ (each (λ (f : Facts). leb (f .digits) 3) refl chip);
   guards = leb-true _ _ (each (λ (f : Facts). leb (f .bits + (f .covered + 7) / 8) (f .size)) refl chip);
   kept = leb-true _ _ (each (λ (f : Facts). leb (f .covered) (f .memory)) refl chip);
-  span = ltb-true _ _ (each (λ (f : Facts). ltb (f .bits + f .covered) addresses) refl chip);
   reached = leb-true _ _ (each (λ (f : Facts). leb (f .reach) (f .covered)) refl chip);
-  typed = ltb-true _ _ (each (λ (f : Facts). ltb 0 (f .selects)) refl chip);
   small = ltb-true _ _ (each (λ (f : Facts). ltb (f .full) 256) refl chip);
 }
 

@@ -2,7 +2,7 @@
 -- with one try spent, or full.
 use mathlib.Core.Path.{_≡_, refl, sym, ap, _∙_}
 use mathlib.Core.List.{List}
-use mathlib.Core.Bool.{Bool, true, false, not}
+use mathlib.Core.Bool.{Bool, true, false}
 use mathlib.Core.Logic.{_≢_}
 use Prim.Native.Nat.{ℕ, _-_, _<_}
 use native.Mathlib.Omega.{arith}
@@ -10,9 +10,9 @@ use lib.Dec.{eqb}
 use lib.ListN.{length, take, set, length-set}
 use lib.Seq.{drop-set-lt, getD-set-same, getD-set-other}
 use borrow.Author.Tests.{eq-eqb, ne-eqb, eqb-true, eqb-false, not-true}
-use Rattle.words.specs.Choice.{_⇒_⁏_, _and_, _is_}
+use Rattle.words.specs.Choice.{_⇒_⁏_, _is_}
 use Rattle.words.specs.Bytes.{byte, same}
-use Rattle.words.proofs.Choices.{first, rest, either, and-true, both}
+use Rattle.words.proofs.Choices.{first, rest, either, and-true}
 use Rattle.codes.specs.Counters.{tries, spent}
 use Rattle.codes.proofs.CounterLaws.{spent-ones, tries-none, tries-some}
 use Rattle.codes.specs.Codes.{codeIn, spending, judging, presenting, accepts}
@@ -30,10 +30,6 @@ module _ (counter full code digits : ℕ) (image guess : List ℕ) where
   pub presenting-none : byte image counter ≡ 0 → presenting counter full code digits image guess ≡ image
   unfolding presenting
   presenting-none e = first _ _ (eq-eqb _ _ e)
-
-  pub accepts-none : byte image counter ≡ 0 → accepts counter full code digits image guess ≡ false
-  unfolding accepts _and_
-  accepts-none e = ap (λ (b : Bool). not b and same guess (codeIn code digits (spending counter image))) (eq-eqb _ _ e)
 
   -- what holds of the image before, with a try spent, and with a try spent and the counter full, holds after
   pub presenting-either : (P : List ℕ → Type 0) → P image → P (spending counter image) → P (set (spending counter image) counter full)
@@ -75,10 +71,6 @@ module _ (counter full code digits : ℕ) (image guess : List ℕ) where
       pub presenting-right : same guess (codeIn code digits image) ≡ true → presenting counter full code digits image guess ≡ set (spending counter image) counter full
       unfolding presenting judging
       presenting-right e = rest _ _ (ne-eqb _ _ some) ∙ first _ _ (ap (same guess) code-spending ∙ e)
-
-      pub accepts-right : same guess (codeIn code digits image) ≡ true → accepts counter full code digits image guess ≡ true
-      unfolding accepts
-      accepts-right e = both (ap not (ne-eqb _ _ some)) (ap (same guess) code-spending ∙ e)
 
       -- "Not: closed", with the try spent
       pub presenting-wrong : same guess (codeIn code digits image) ≡ false → presenting counter full code digits image guess ≡ spending counter image

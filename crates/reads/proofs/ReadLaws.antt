@@ -105,12 +105,6 @@ pub read-open : (code digits : ℕ) {o : Bool} (image : List ℕ) (at n : ℕ) �
 unfolding bytesRead visible
 read-open code digits image at n e = ap (λ (l : List ℕ). take n (drop at l)) (taken _ e)
 
--- so does a card that has no code
-pub read-codeless : (code : ℕ) {digits : ℕ} (o : Bool) (image : List ℕ) (at n : ℕ) → digits ≡ 0 → take n (drop at image) ≡ bytesRead code digits o image at n
-unfolding bytesRead visible
-read-codeless code o image at n e =
-    ap (λ (l : List ℕ). take n (drop at l)) (either (λ (l : List ℕ). image ≡ l) o (λ _. refl) (λ _. ap (λ (m : ℕ). sets image code (replicate m 0)) (sym e)))
-
 -- a closed one shows its bytes with the code blanked
 pub read-closed : (code digits : ℕ) {o : Bool} (image out : List ℕ) (at n : ℕ) → o ≡ false → at + n ≤ length image → n ≤ length out
     → blanked at (at + n) code digits (over (take n (drop at image)) out) ≡ over (bytesRead code digits o image at n) out

@@ -1,10 +1,9 @@
--- Laws of records: a whole one lies in the slice, the next place is past it, and what comes behind does not change it.
+-- Laws of records: a whole one lies in the slice, a cut one is shorter than the longest, and what comes behind a whole one does not change it.
 use mathlib.Core.Path.{_≡_, refl, ap, ap₂, _∙_, subst}
 use mathlib.Core.List.{List, _++_}
 use Prim.Native.Nat.{ℕ, _+_, _-_, _*_, _≤_, _<_}
 use native.Mathlib.Omega.{arith}
-use lib.ListN.{length, take, length-append, List·getD-append}
-use lib.Seq.{length-take-le}
+use lib.ListN.{length, length-append, List·getD-append}
 use lib.Dec.{ltb, leb}
 use borrow.Author.Tests.{ltb-true, ltb-false, leb-true, le-ltb, lt-leb}
 use Rattle.words.specs.Bounds.{largest, longestRecord}
@@ -50,18 +49,6 @@ record-lies l at =
 -- what a caller uses: the reading was a whole record
 pub whole-within : (l : List ℕ) (at : ℕ) {mark : Mark} {start end : ℕ} → recordAt l at ≡ Whole mark start end → Within l at mark start end
 whole-within l at e = subst (Lies l at) e (record-lies l at)
-
--- the same where the slice is the front of a buffer, n bytes long
-pub front-within : (l : List ℕ) (n at : ℕ) {mark : Mark} {start end : ℕ} → n ≤ length l → recordAt (take n l) at ≡ Whole mark start end → (start ≤ end) × (end ≤ n)
-front-within l n at h e =
-    let w = whole-within (take n l) at e in
-    (w .ends, omega (arith, w .held, length-take-le n l h))
-
--- a loop that goes on from the end of a whole record gets on
-pub whole-past : (l : List ℕ) (at : ℕ) {mark : Mark} {start end : ℕ} → recordAt l at ≡ Whole mark start end → at < end
-whole-past l at e =
-    let w = whole-within l at e in
-    omega (arith, w .starts, w .ends)
 
 -- ---- room for more
 -- a record that is cut has fewer bytes than the longest whole one, 4 and 32,769, and at the end there is none

@@ -8,7 +8,7 @@ use native.Mathlib.Nat.{add-comm, zero-add, not-suc-le-zero, le-of-suc-le-suc, a
 use native.Mathlib.Numerals.{add-one}
 use native.Mathlib.Omega.{arith}
 use lib.ListN.{length, take, drop, set, getD, length-append, length-drop, drop-of-length-le, take-append-drop}
-use lib.Seq.{length-take-le, set-at, drop-cons, drop-drop, drop-at, append-snoc, take-at, take-all, take-append-seam, drop-set-lt, sets, getD-set-other}
+use lib.Seq.{length-take-le, set-at, drop-cons, drop-drop, drop-at, append-snoc, take-at, take-all, take-append-seam, sets, getD-set-other}
 use lib.Seq.{getD-append-add, getD-drop, take-add}
 use lib.Dec.{ltb}
 use borrow.Rule.Slice.PartMut.{putMid}
@@ -60,11 +60,6 @@ over-snoc b d x n e h =
     ∙ set-at b (getD d (length b) 0) (drop (suc (length b)) d) x n e
     ∙ sym (append-snoc b x (drop (suc (length b)) d))
     ∙ ap (λ (m : ℕ). (b ++ (x ∷ [])) ++ drop m d) (sym (length-append b (x ∷ []) ∙ add-one (length b)))
-
--- what stood under the bytes does not matter
-pub over-set : (b d : List ℕ) (i v : ℕ) → i < length b → over b (set d i v) ≡ over b d
-unfolding over
-over-set b d i v h = ap (λ (t : List ℕ). b ++ t) (drop-set-lt (length b) d i v h)
 
 -- two bytes more
 pub over-two : (b d : List ℕ) (n x y : ℕ) → length b ≡ n → n + 2 ≤ length d → set (set (over b d) n x) (n + 1) y ≡ over (b ++ (x ∷ y ∷ [])) d

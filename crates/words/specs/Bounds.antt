@@ -24,7 +24,3 @@ longestAnswer = 267
 -- the longest whole record of a session: a mark, a length, and a kind byte and the largest card's image
 abbrev pub longestRecord : ℕ
 longestRecord = 32773
-
--- the longest line that a session could print: `msg 0 `, two digits for each byte of the answer buffer, and the line's end
-abbrev pub longestLine : ℕ
-longestLine = 549

@@ -1,16 +1,11 @@
 -- Every wrong reader of a raw record is caught at its input, which is computed; and no code is one that is caught.
 use Prim.Native.Nat.{ℕ, _+_}
-use mathlib.Core.Path.{_≡_, refl, sym, ap, _∙_, subst}
-use mathlib.Core.Bool.{Bool, true, false}
+use mathlib.Core.Path.{_≡_, refl, sym, _∙_, subst}
+use mathlib.Core.Bool.{true, false}
 use mathlib.Core.List.{List, [], _∷_}
-use native.Mathlib.Omega.{arith}
 use lib.IntN.{ℤ, pos, negsuc}
 use borrow.Author.Tests.{eq-eqb, not-true}
-use Rattle.words.specs.Choice.{_⇒_⁏_}
-use Rattle.words.specs.Bytes.{same}
 use Rattle.words.proofs.Choices.{both, no-test}
-use Rattle.words.proofs.Lists.{same-self}
-use Rattle.chips.specs.Kinds.{chipOf}
 use Rattle.record.specs.Raw.{rawOf, blank, slotWith, cardWith, slotOf}
 use Rattle.frame.specs.declared.Verdict.{Verdict}
 use Rattle.reader.specs.declared.Meant.{Meant}

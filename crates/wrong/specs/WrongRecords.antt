@@ -1,6 +1,6 @@
 -- Wrong readers of a raw record, each as short as its fault, with an input at which it gives something else than the rules: messages,
 -- insertions and removals on 32 bytes, and the one number that C gets.
-use Prim.Native.Nat.{ℕ, zero, suc, _+_}
+use Prim.Native.Nat.{ℕ, _+_}
 use mathlib.Core.Path.{_≡_}
 use mathlib.Core.Bool.{Bool, false, not}
 use mathlib.Core.List.{List, [], _∷_, _++_}
@@ -13,7 +13,7 @@ use Rattle.chips.specs.declared.Chip.the-variants.{I2c1, Sle4442}
 use Rattle.chips.specs.declared.Known.{Known}
 use Rattle.chips.specs.declared.Known.the-variants.{Is, Unknown}
 use Rattle.chips.specs.Kinds.{chipOf}
-use Rattle.slot.specs.Slots.{removed, inserted, paged}
+use Rattle.slot.specs.Slots.{removed, inserted}
 use Rattle.record.specs.declared.Reading.{Reading}
 use Rattle.record.specs.Raw.{rawOf, slotOf}
 use Rattle.frame.specs.declared.Refusal.{Refusal}
