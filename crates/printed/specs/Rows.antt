@@ -78,8 +78,8 @@ rows =
     -- 4. it starts with the empty sound slot: no card answers, and one can be put in
     ∷ (status ++ powerRecord ++ insert 1 (image1 0) gives "msg 0 81000000000000020001" ∷ "msg 0 8000000000000042fe00" ∷ "in 0" ∷ [])
     -- 5. `in K`: 3 for a kind that is unknown, and for an image that is not the kind's; 6. 5 while a card is in
-    ∷ (insert 10 (image1 0) ++ insert 1 (replicate 127 0) ++ status gives "in 3" ∷ "in 3" ∷ "msg 0 81000000000000020001" ∷ [])
-    ∷ (insert 1 (image1 0) ++ insert 1 (image1 0) ++ insert 10 [] gives "in 0" ∷ "in 5" ∷ "in 5" ∷ [])
+    ∷ (insert 255 (image1 0) ++ insert 1 (replicate 127 0) ++ status gives "in 3" ∷ "in 3" ∷ "msg 0 81000000000000020001" ∷ [])
+    ∷ (insert 1 (image1 0) ++ insert 1 (image1 0) ++ insert 255 [] gives "in 0" ∷ "in 5" ∷ "in 5" ∷ [])
     -- 7. an insert with an empty body counts as one of unknown kind
     ∷ (recorded 0x43 0x49 [] ++ insert 1 (image1 0) ++ recorded 0x43 0x49 [] gives "in 3" ∷ "in 0" ∷ "in 5" ∷ [])
     -- 8. `out 0`, with a card and without one

@@ -93,7 +93,7 @@ insertionRows =
     ∷ byInsertion downs.occupiedAs3 (shut I2c1) 30 mem4442
     ∷ byInsertion downs.kindFirst (shut I2c1) 0 []
     ∷ byInsertion downs.vetsSlot (paged 16 removed) 30 mem4442
-    ∷ byInsertion downs.anyKind removed 10 memI2c
+    ∷ byInsertion downs.anyKind removed 255 memI2c
     ∷ byInsertion downs.insertsAnyLength removed 1 (replicate 127 0x00)
     ∷ byInsertion downs.insertsAnyLength removed 1 (replicate 129 0x00)
     ∷ byInsertion downs.insertsAnyCounter removed 30 (image4442 0x08)
