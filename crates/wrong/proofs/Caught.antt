@@ -99,6 +99,6 @@ all-caught = refl
 pub all-refuted : EachRefuted wrongReaders
 all-refuted = each-refuted 0 wrongReaders all-caught
 
-pub row-count : length wrongReaders ≡ 1355
+pub row-count : length wrongReaders ≡ 1356
 unfolding rules wrongReaders
 row-count = refl

@@ -4,7 +4,7 @@ use mathlib.Core.List.{List, [], _∷_, _++_}
 use lib.ListN.{replicate, take, set}
 use Rattle.chips.specs.declared.Chip.the-variants.{I2c1, Sle4428, Sle4442}
 use Rattle.slot.specs.Slots.{inserted, removed, powered, selecting, paged, opened}
-use Rattle.vectors.specs.Sessions.{image4442, transfer, wrong4442, right4442}
+use Rattle.vectors.specs.Sessions.{image4442, image4428, transfer, wrong4442, right4442}
 use Rattle.promise.specs.Visits.{select, readCounter}
 use Rattle.wrong.specs.Wrong.{oneByOne}
 use Rattle.wrong.specs.Caught.{Witness, byMessage, byInsertion, byRemoval}
@@ -72,6 +72,7 @@ downRows =
     ∷ on downs.openPlain (wide I2c1) memI2c (plain 0x65)
     ∷ on downs.openUntyped (opened (bare Sle4442)) mem4442 (plain 0x65)
     ∷ on downs.openSpent (wide Sle4442) (image4442 0x03) (plain 0x65)
+    ∷ on downs.openBefore (wide Sle4428) (set (image4428 0x7F) 0x3FC 0xFF) (plain 0x65)
     ∷ byMessage downs.messageFirst (shut Sle4442) mem4442 [] 0
     ∷ at4442 downs.imageFirst 0x08 []
     ∷ on downs.recordFirst (paged 24 (shut Sle4442)) (image4442 0x08) (plain 0x65)

@@ -112,6 +112,13 @@ openSpent = vetting λ s image.
     pageSize (s .page) and emptySound s and idleSound s and typeSound s
     and (s .«open» means cardIn (s .holds) .coded and s .selected is ownType (s .holds))
 
+-- lets a code card through that is open where the byte before its counter is full
+abbrev pub openBefore : Reader
+openBefore = vetting λ s image.
+    pageSize (s .page) and emptySound s and idleSound s and typeSound s
+    and (s .«open» means cardIn (s .holds) .coded and s .selected is ownType (s .holds)
+    and byte image (cardIn (s .holds) .counter - 1) is cardIn (s .holds) .full)
+
 -- ---- the order of the tests, and what a call that is turned down leaves
 -- tests 2 before 1
 abbrev pub messageFirst : Reader
