@@ -52,16 +52,16 @@ tz-none k n e = omega (arith, no-under (n % 2) (trailingZeros k (n / 2)) e)
 
 -- ---- a byte turned round
 -- what is left of 511 has a one where the byte has a zero, and a one behind the byte's end
-turned : (j b : ℕ) → j < 8 → b < 256 → bitOf (511 - b) j + bitOf b j ≡ 1
-turned zero b h l = omega arith
-turned (suc zero) b h l = omega arith
-turned (suc (suc zero)) b h l = omega arith
-turned (suc (suc (suc zero))) b h l = omega arith
-turned (suc (suc (suc (suc zero)))) b h l = omega arith
-turned (suc (suc (suc (suc (suc zero))))) b h l = omega arith
-turned (suc (suc (suc (suc (suc (suc zero)))))) b h l = omega arith
-turned (suc (suc (suc (suc (suc (suc (suc zero))))))) b h l = omega arith
-turned (suc (suc (suc (suc (suc (suc (suc (suc j)))))))) b h l = absurd (omega arith)
+bits-turned : (j b : ℕ) → j < 8 → b < 256 → bitOf (511 - b) j + bitOf b j ≡ 1
+bits-turned zero b h l = omega arith
+bits-turned (suc zero) b h l = omega arith
+bits-turned (suc (suc zero)) b h l = omega arith
+bits-turned (suc (suc (suc zero))) b h l = omega arith
+bits-turned (suc (suc (suc (suc zero)))) b h l = omega arith
+bits-turned (suc (suc (suc (suc (suc zero))))) b h l = omega arith
+bits-turned (suc (suc (suc (suc (suc (suc zero)))))) b h l = omega arith
+bits-turned (suc (suc (suc (suc (suc (suc (suc zero))))))) b h l = omega arith
+bits-turned (suc (suc (suc (suc (suc (suc (suc (suc j)))))))) b h l = absurd (omega arith)
 
 bit-shifted : (n i j : ℕ) → bitOf (n / 2 ^ i) j ≡ bitOf n (i + j)
 bit-shifted n i j = ap (λ (m : ℕ). m % 2) (div-div-eq-div-mul n (2 ^ i) (2 ^ j) ∙ ap (λ (m : ℕ). n / m) (sym (pow-add 2 i j)))
@@ -73,8 +73,8 @@ ones-scanned k b i small h =
     let within : trailingZeros (suc k) x ≤ 8 - i = tz-least (suc k) x (8 - i) end in
     record {
       within = omega (arith, within);
-      ones = λ j l. omega (arith, tz-below (suc k) x j l, bit-shifted (511 - b) i j, turned (i + j) b (omega (arith, within)) small);
-      none = λ e. omega (arith, tz-none k x e, turned i b h small);
+      ones = λ j l. omega (arith, tz-below (suc k) x j l, bit-shifted (511 - b) i j, bits-turned (i + j) b (omega (arith, within)) small);
+      none = λ e. omega (arith, tz-none k x e, bits-turned i b h small);
     }
 
 -- ---- the bytes of a protection byte

@@ -75,14 +75,14 @@ held s m = record { slot = s; size = m }
 held-only : (h h′ : Held) → h .slot ≡ h′ .slot → h .size ≡ h′ .size → h ≡ h′
 held-only h h′ a b = ap (λ (s : Slot). held s (h .size)) a ∙ ap (held (h′ .slot)) b
 
-abbrev done : ℕ → ℕ → Held → Done
-done k n h = record { number = k; len = n; held = h }
+abbrev done-by : ℕ → ℕ → Held → Done
+done-by k n h = record { number = k; len = n; held = h }
 
 done-only : (r r′ : Done) → r .number ≡ r′ .number → r .len ≡ r′ .len → r .held ≡ r′ .held → r ≡ r′
 done-only r r′ a b c =
-    ap (λ (k : ℕ). done k (r .len) (r .held)) a
-    ∙ ap (λ (n : ℕ). done (r′ .number) n (r .held)) b
-    ∙ ap (done (r′ .number) (r′ .len)) c
+    ap (λ (k : ℕ). done-by k (r .len) (r .held)) a
+    ∙ ap (λ (n : ℕ). done-by (r′ .number) n (r .held)) b
+    ∙ ap (done-by (r′ .number) (r′ .len)) c
 
 -- ---- chips and card
 pub chips-chip-of-only : (kind : ℕ) (r r′ : Known) → r ≡ chipOf kind → r′ ≡ chipOf kind → r ≡ r′
@@ -228,11 +228,11 @@ sitting-perform-only mark body h had was r r′ left left′ holds holds′ g g�
 puts-only : {b d h h′ : List ℕ} {r r′ : ℕ} → Puts b r d h → Puts b r′ d h′ → (r ≡ r′) × (h ≡ h′)
 puts-only p p′ = (value-only (p .len) (p′ .len), value-only (p .buffer) (p′ .buffer))
 
-abbrev turned : Held → ℕ → Turned
-turned h n = record { held = h; len = n }
+abbrev turned-by : Held → ℕ → Turned
+turned-by h n = record { held = h; len = n }
 
 turned-only : (r r′ : Turned) → r .held ≡ r′ .held → r .len ≡ r′ .len → r ≡ r′
-turned-only r r′ a b = ap (λ (h : Held). turned h (r .len)) a ∙ ap (turned (r′ .held)) b
+turned-only r r′ a b = ap (λ (h : Held). turned-by h (r .len)) a ∙ ap (turned-by (r′ .held)) b
 
 pub printed-turn-only : (mark : Mark) (body : List ℕ) (h : Held) (had was blank : List ℕ) (r r′ : Turned) (left left′ holds holds′ told told′ : List ℕ)
     → Turns mark (comesOf mark body (h .slot) (take (h .size) had)) r had left was holds blank told

@@ -3,7 +3,7 @@ use mathlib.Core.Path.{_≡_, refl, sym, ap, ap₂, _∙_, subst⁻¹}
 use mathlib.Core.List.{List, [], _∷_, _++_}
 use mathlib.Core.Bool.{Bool, true, false}
 use Prim.Native.Nat.{ℕ, suc, _+_, _-_, _*_, _/_, _%_, _≤_, _<_, _∣_}
-use native.Mathlib.Nat.{add-mod-right, mul-mod-right, mul-div-cancel', mul-comm, mul-suc, div-lt-iff-lt-mul, mod-mod, mod-mod-of-dvd, mod-add-mod}
+use native.Mathlib.Nat.{add-mod-right, mul-mod-right, mul-div-cancel', mul-comm, mul-suc, div-lt-iff-lt-mul, mod-mod, mod-mod-of-dvd}
 use native.Mathlib.Nat.{mul-add-mod-self-left, mod-eq-of-lt, add-zero, div-add-mod, mod-lt, mod-le, mul-le-mul-left, dvd-of-mod-eq-zero}
 use native.Mathlib.Numerals.{add-one}
 use native.Mathlib.Omega.{arith}
@@ -13,6 +13,7 @@ use lib.Dec.{eqb}
 use borrow.Author.Tests.{eqb-true, eqb-false, ne-eqb}
 use Rattle.words.specs.Choice.{_⇒_⁏_, _is_}
 use Rattle.words.proofs.Choices.{either, rest}
+use Rattle.words.proofs.Lists.{mod-next}
 use Rattle.pages.specs.Pages.{cutStart, lands, pageWrite}
 
 -- ---- any pages
@@ -49,10 +50,6 @@ cut-again reader c a = go (a % reader is 0)
     go : (b : Bool) → (b ⇒ a ⁏ (b ⇒ a ⁏ c)) ≡ (b ⇒ a ⁏ c)
     go true = refl
     go false = refl
-
--- up to the end of a page a remainder grows with its number
-mod-next : (x m : ℕ) → x % m + 1 < m → (x + 1) % m ≡ x % m + 1
-mod-next x m h = sym (mod-add-mod x m 1) ∙ mod-eq-of-lt h
 
 -- before the end of the reader page the cut goes on
 cut-on : (reader c a : ℕ) → a % reader + 1 < reader → cutStart reader c (a + 1) ≡ c

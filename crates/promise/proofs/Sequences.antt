@@ -1,15 +1,15 @@
 -- Sequences of calls are runs: what `card_reader_message` leaves of a raw record and an image, and `sitting::perform` of what is held, is what
 -- the run leaves, so the sentence holds of both.
 use Prim.Native.Nat.{ℕ, zero, suc}
-use mathlib.Core.Path.{_≡_, refl, sym, ap, _∙_, subst⁻¹}
+use mathlib.Core.Path.{_≡_, refl, sym, ap, _∙_, subst, subst⁻¹}
 use mathlib.Core.Bool.{true}
-use mathlib.Core.List.{List, []}
+use mathlib.Core.List.{List, [], _∷_}
 use native.Mathlib.Omega.{arith}
-use lib.ListN.{length, take, drop}
+use lib.ListN.{length, take, drop, replicate, length-replicate}
 use lib.IntN.{pos}
 use borrow.Author.Tests.{eq-eqb}
 use Rattle.words.specs.Choice.{_isnt_}
-use Rattle.words.specs.Bytes.{byte}
+use Rattle.words.specs.Bytes.{byte, over}
 use Rattle.words.specs.Bounds.{leastRoom}
 use Rattle.words.proofs.Choices.{past, first, rest}
 use Rattle.records.specs.declared.Mark.{Mark}
@@ -31,8 +31,9 @@ use Rattle.sitting.specs.declared.Held.{Held}
 use Rattle.sitting.specs.declared.Done.{Done}
 use Rattle.sitting.specs.Sittings.{outcomeOf, holding, Leaves}
 use Rattle.sitting.proofs.Holding.{held-is}
+use Rattle.vectors.specs.Sessions.{lent}
 use Rattle.promise.specs.Tries.{triesIn, PutIn, runFrom, Sentence}
-use Rattle.promise.specs.Sequences.{Called, hung, called, Sat, stood, sat}
+use Rattle.promise.specs.Sequences.{sentWith, Called, hung, called, Sat, stood, sat, SomeCalls, SomeSitting}
 use Rattle.promise.proofs.Zero.{zero-kept}
 use Rattle.promise.proofs.Cases.{sentence-holds}
 use Rattle.promise.proofs.Inserted.{put-image}
@@ -77,6 +78,23 @@ called-run {r} {image} (called m was g later) s start e i =
     ∙ raw-exchange-is s start m (length was) in
     called-run later (o .slot) (o .image) (g .raw ∙ ap (λ (x : RawOutcome). x .raw) k) (g .image ∙ ap (λ (x : RawOutcome). x .image) k)
 
+-- any messages, with any rooms, can be called
+pub calls-go : (r image : List ℕ) (ms : List Sent) → SomeCalls r image ms
+calls-go r image [] = record { left = r; next = image; sequence = hung r image }
+calls-go r image (m ∷ ms) =
+    let was : List ℕ = replicate (m .room) 0 in
+    let o : RawOutcome = rawExchange r image (m .message) (length was) in
+    let later = calls-go (o .raw) (o .image) ms in
+    let gives : Returns o (resultOf (o .number) (length (o .answer))) (o .raw) (o .image) was (over (o .answer) was) =
+    record { result = refl; raw = refl; image = refl; buffer = refl } in
+    record {
+      left = later .left;
+      next = later .next;
+      sequence =
+          subst (λ (n : ℕ). Called r image (sentWith (m .message) n ∷ ms) (later .left) (later .next)) (length-replicate (m .room) 0)
+          (called (m .message) was gives (later .sequence));
+    }
+
 -- ---- messages of a sitting
 pub sat-run : {h : Held} {had : List ℕ} {ms : List Sent} {h′ : Held} {left′ : List ℕ} → Sat h had ms h′ left′ → (s : Slot) (image : List ℕ) → h .slot ≡ s
     → take (h .size) had ≡ image
@@ -88,6 +106,18 @@ sat-run {h} {had} (sat m {d = d} {left = left} g later) s image e i =
     let k : exchange (h .slot) (take (h .size) had) m leastRoom ≡ o = ap (λ (t : Slot). exchange t (take (h .size) had) m leastRoom) e
     ∙ ap (λ (l : List ℕ). exchange s l m leastRoom) i in
     sat-run later (o .slot) (o .image) (g .slot ∙ ap (λ (x : Outcome). x .slot) k) (held-is g ∙ ap (λ (x : Outcome). x .image) k)
+
+-- any messages can be performed
+pub sittings-go : (h : Held) (had : List ℕ) (ms : List (List ℕ)) → SomeSitting h had (lent ms)
+unfolding lent
+sittings-go h had [] = record { held = h; left = had; sequence = stood h had }
+sittings-go h had (m ∷ ms) =
+    let o : Outcome = outcomeOf Mark.Message m (h .slot) (take (h .size) had) leastRoom in
+    let d : Done = record { number = o .number; len = length (o .answer); held = record { slot = o .slot; size = length (o .image) } } in
+    let later = sittings-go (d .held) (over (o .image) had) ms in
+    let leaves : Leaves o d had (over (o .image) had) [] (over (o .answer) []) =
+    record { number = refl; len = refl; slot = refl; size = refl; image = refl; buffer = refl } in
+    record { held = later .held; left = later .left; sequence = sat m leaves (later .sequence) }
 
 -- ---- the sentence, for both
 -- a code card put in by `card_reader_insert`, which returned 0

@@ -1,25 +1,36 @@
 -- Both code cards can be put in, and visits of them have the histories and leave the tries that the theorems speak of: the rules are computed.
-use mathlib.Core.Path.{_≡_, refl}
+use mathlib.Core.Path.{_≡_, refl, ap, _∙_}
 use mathlib.Core.Bool.{true}
 use mathlib.Core.List.{List, [], _∷_, _++_}
-use lib.ListN.{replicate}
+use Prim.Native.Nat.{ℕ}
+use lib.ListN.{replicate, take}
+use lib.IntN.{pos}
 use lib.Count.{ones}
 use Rattle.words.specs.Bounds.{leastRoom}
 use Rattle.codes.specs.Counters.{tries}
 use Rattle.chips.specs.declared.Chip.the-variants.{Sle4428, Sle4442}
-use Rattle.chips.specs.Kinds.{facts}
-use Rattle.slot.specs.Slots.{removed}
+use Rattle.chips.specs.declared.Known.the-variants.{Is}
+use Rattle.chips.specs.Kinds.{facts, chipOf}
+use Rattle.records.specs.declared.Mark.{Mark}
+use Rattle.slot.specs.Slots.{removed, inserted}
+use Rattle.record.specs.Raw.{rawOf}
 use Rattle.steps.specs.declared.Order.{Order}
 use Rattle.steps.specs.Steps.{order}
 use Rattle.faults.specs.Faults.{Transfer, apdu}
 use Rattle.reader.specs.Runs.{Sent, Run, sending}
 use Rattle.reader.specs.Heard.{requested, heard, reached}
 use Rattle.reader.specs.Rules.{rules}
+use Rattle.calls.specs.Calls.{RawOutcome, keeping, rawInsertion, Returns}
+use Rattle.sitting.specs.declared.Held.{Held}
+use Rattle.sitting.specs.declared.Done.{Done}
+use Rattle.sitting.specs.Sittings.{outcomeOf, holding, Leaves}
 use Rattle.vectors.specs.Sessions.{lent, selectedSlot, image4442, image4428, transfer, success, wrong4442}
 use Rattle.promise.specs.Tries.{wrong, rightNow, eventOf, history, wrongs, left, account, triesLeft, triesIn, PutIn, runFrom}
 use Rattle.promise.specs.Visits.{sameEvents, asSaid, unlike, with4442, with4428, visits, powerOn, select, readCounter, thief4442}
 use Rattle.promise.proofs.Zero.{zero-remains}
+use Rattle.promise.specs.Sequences.{Called, Sat}
 use Rattle.promise.proofs.Told.{counter-told}
+use Rattle.promise.proofs.Sequences.{calls-run, sittings-run}
 
 -- all tries: three and eight
 pub all4442 : tries (facts Sle4442 .full) ≡ 3
@@ -73,3 +84,34 @@ pub counter-read : (sending (burned .slot) (burned .image) asks .answer ≡ succ
     × (sending (burned .slot) (burned .image) asks .image ≡ burned .image)
 unfolding rules image4442 lent transfer success
 counter-read = counter-told Sle4442 (burned .slot) (burned .image) asks refl 4 (counter-asked .0) (counter-asked .1) (counter-asked .2)
+
+known4442 : chipOf 30 ≡ Is Sle4442
+unfolding rules
+known4442 = refl
+
+-- ---- and so by calls: the card is put in by `card_reader_insert`, and any calls of the visit's messages leave no try
+abbrev pub putCalled : RawOutcome
+putCalled = rawInsertion (rawOf removed) 30 (image4442 0x07)
+
+pub call-put4442 : Returns putCalled (pos 0) (rawOf (inserted Sle4442)) (image4442 0x07) [] []
+unfolding rules rawOf rawInsertion keeping image4442
+call-put4442 = record { result = refl; raw = refl; image = refl; buffer = refl }
+
+pub thief-called : {r image : List ℕ} → Called (rawOf (inserted Sle4442)) (image4442 0x07) (lent thief4442) r image → triesIn (facts Sle4442) image ≡ 0
+thief-called later =
+    ap (triesIn (facts Sle4442)) (calls-run Sle4442 refl 30 known4442 (rawOf removed) (image4442 0x07) call-put4442 later .1) ∙ thief-zero
+
+-- and by records of a session
+abbrev pub startHeld : Held
+startHeld = record { slot = removed; size = 0 }
+
+abbrev pub putSat : Done
+putSat = record { number = 0; len = 0; held = record { slot = inserted Sle4442; size = 264 } }
+
+pub record-put4442 : Leaves (outcomeOf Mark.Insert (30 ∷ image4442 0x07) removed [] leastRoom) putSat [] (image4442 0x07) [] []
+unfolding rules outcomeOf holding image4442
+record-put4442 = record { number = refl; len = refl; slot = refl; size = refl; image = refl; buffer = refl }
+
+pub thief-sat : {h : Held} {image : List ℕ} → Sat (putSat .held) (image4442 0x07) (lent thief4442) h image → triesIn (facts Sle4442) (take (h .size) image) ≡ 0
+thief-sat later =
+    ap (triesIn (facts Sle4442)) (sittings-run Sle4442 refl startHeld [] (30 ∷ image4442 0x07) known4442 record-put4442 refl later .1) ∙ thief-zero

@@ -30,3 +30,14 @@ pub data Sat : Held → List ℕ → List Sent → Held → List ℕ → Type 0 
       → Leaves (outcomeOf Mark.Message m (h .slot) (take (h .size) had) leastRoom) d had left was holds
       → Sat (d .held) left ms h′ left′
       → Sat h had (sentWith m leastRoom ∷ ms) h′ left′
+
+-- ---- such a sequence, wherever it ends
+pub record SomeCalls (r image : List ℕ) (ms : List Sent) : Type 0 where
+  pub left : List ℕ
+  pub next : List ℕ
+  pub sequence : Called r image ms left next
+
+pub record SomeSitting (h : Held) (had : List ℕ) (ms : List Sent) : Type 0 where
+  pub held : Held
+  pub left : List ℕ
+  pub sequence : Sat h had ms held left

@@ -1,18 +1,18 @@
 -- Laws of reads: code bytes blanked in the buffer are code bytes blanked in the image.
 use mathlib.Core.Path.{_≡_, refl, sym, ap, _∙_}
-use mathlib.Core.List.{List, _++_}
+use mathlib.Core.List.{List}
 use mathlib.Core.Bool.{Bool, true, false}
 use Prim.Native.Nat.{ℕ, zero, suc, _+_, _-_, _≤_, _<_}
 use native.Mathlib.Decide.{decLe}
 use native.Mathlib.Nat.{lt-of-not-le}
 use native.Mathlib.Numerals.{add-one}
 use native.Mathlib.Omega.{arith}
-use lib.ListN.{length, take, drop, set, replicate, length-set, length-drop, length-replicate, replicate-append-replicate}
-use lib.Seq.{sets, length-sets, length-take-le, set-append-left, take-set-le, take-set-lt, drop-set-lt, drop-set-add}
+use lib.ListN.{length, take, drop, set, replicate, length-set, length-drop, length-replicate}
+use lib.Seq.{sets, length-sets, length-take-le}
 use borrow.Author.Tests.{le-leb, lt-leb, lt-ltb, le-ltb}
 use Rattle.words.specs.Bytes.{over}
 use Rattle.words.proofs.Choices.{either, first, rest, taken, passed}
-use Rattle.words.proofs.Lists.{sets-snoc}
+use Rattle.words.proofs.Windows.{window-out, window-in, sets-zeros}
 use Rattle.reads.specs.Reads.{visible, bytesRead, counterRead}
 use Rattle.reads.specs.Inner.{blankOne, blanked}
 
@@ -50,44 +50,16 @@ pub blanked-more : (at end code n : ℕ) (out : List ℕ) → blanked at end cod
 unfolding blanked
 blanked-more at end code n out = rw (add-one n)
 
--- ---- the window from `at`, n long, of an image in which byte k is set
+-- ---- a byte of the window
 module _ (at n : ℕ) (image out : List ℕ) (fits : at + n ≤ length image) (room : n ≤ length out) where
-  window-long : length (take n (drop at image)) ≡ n
-  window-long = length-take-le n (drop at image) (omega (arith, length-drop at image))
-
-  pub window-out : (k v : ℕ) → (k < at → take n (drop at (set image k v)) ≡ take n (drop at image)) × (at + n ≤ k → take n (drop at (set image k v)) ≡ take n (drop at image))
-  window-out k v = (
-    λ h. ap (take n) (drop-set-lt at image k v h),
-    λ h.
-        let e : at + (k - at) ≡ k = omega arith in
-        ap (λ (m : ℕ). take n (drop at (set image m v))) (sym e) ∙ ap (take n) (drop-set-add at image (k - at) v) ∙ take-set-le n (drop at image) (k - at) v (omega arith),
-  )
-
-  pub window-in : (k v : ℕ) → at ≤ k → k < at + n → over (take n (drop at (set image k v))) out ≡ set (over (take n (drop at image)) out) (k - at) v
-  unfolding over
-  window-in k v h b =
-      let e : at + (k - at) ≡ k = omega arith in
-      let w : take n (drop at (set image k v)) ≡ set (take n (drop at image)) (k - at) v =
-      ap (λ (m : ℕ). take n (drop at (set image m v))) (sym e) ∙ ap (take n) (drop-set-add at image (k - at) v) ∙ take-set-lt n (drop at image) (k - at) v (omega arith) in
-      ap (λ (l : List ℕ). l ++ drop (length l) out) w
-      ∙ ap (λ (m : ℕ). set (take n (drop at image)) (k - at) v ++ drop m out) (length-set (take n (drop at image)) (k - at) v)
-      ∙ sym (set-append-left (take n (drop at image)) (drop (length (take n (drop at image))) out) (k - at) v (omega (arith, window-long)))
-
   -- one byte blanked in the buffer is that byte set in the image
   pub blank-window : (k : ℕ) → blankOne at (at + n) k (over (take n (drop at image)) out) ≡ over (take n (drop at (set image k 0))) out
   blank-window k = go (decLe at k) (decLe (at + n) k)
     where
       go : Dec (at ≤ k) → Dec (at + n ≤ k) → blankOne at (at + n) k (over (take n (drop at image)) out) ≡ over (take n (drop at (set image k 0))) out
-      go (no h) e = blank-before at (at + n) k _ (lt-of-not-le h) ∙ ap (λ (l : List ℕ). over l out) (sym (window-out k 0 .0 (lt-of-not-le h)))
-      go (yes h) (yes e) = blank-behind at (at + n) k _ h e ∙ ap (λ (l : List ℕ). over l out) (sym (window-out k 0 .1 e))
-      go (yes h) (no e) = blank-here at (at + n) k _ h (lt-of-not-le e) ∙ sym (window-in k 0 h (lt-of-not-le e))
-
--- zeros stored, one more
-sets-zeros : (image : List ℕ) (code n : ℕ) → sets image code (replicate (suc n) 0) ≡ set (sets image code (replicate n 0)) (code + n) 0
-sets-zeros image code n =
-    ap (sets image code) (ap (λ (m : ℕ). replicate m 0) (sym (add-one n)) ∙ sym (replicate-append-replicate n 1 0))
-    ∙ sets-snoc image code (replicate n 0) 0
-    ∙ ap (λ (m : ℕ). set (sets image code (replicate n 0)) (code + m) 0) (length-replicate n 0)
+      go (no h) e = blank-before at (at + n) k _ (lt-of-not-le h) ∙ ap (λ (l : List ℕ). over l out) (sym (window-out at n image out fits room k 0 .0 (lt-of-not-le h)))
+      go (yes h) (yes e) = blank-behind at (at + n) k _ h e ∙ ap (λ (l : List ℕ). over l out) (sym (window-out at n image out fits room k 0 .1 e))
+      go (yes h) (no e) = blank-here at (at + n) k _ h (lt-of-not-le e) ∙ sym (window-in at n image out fits room k 0 h (lt-of-not-le e))
 
 -- the code blanked in the buffer is the code blanked in the image
 blank-code : (at n code digits : ℕ) (image out : List ℕ) → at + n ≤ length image → n ≤ length out

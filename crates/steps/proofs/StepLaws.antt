@@ -1,13 +1,13 @@
 -- A law for each step, for any instruction: how far a command has come that passed the steps so far, and where it stops. A handler cites
 -- at each of its returns the law of that step alone.
 use Prim.Native.Nat.{ℕ, _+_}
-use mathlib.Core.Path.{_≡_, refl, sym, ap, _∙_}
+use mathlib.Core.Path.{_≡_, sym, ap, _∙_}
 use mathlib.Core.List.{List}
-use mathlib.Core.Bool.{Bool, true, false, not}
+use mathlib.Core.Bool.{true, false, not}
 use mathlib.Core.Logic.{_≢_}
 use borrow.Author.Tests.{eq-eqb, ne-eqb}
 use Rattle.words.specs.Choice.{_⇒_⁏_, _and_, _is_, _isnt_}
-use Rattle.words.proofs.Choices.{first, rest, and-fails, and-holds}
+use Rattle.words.proofs.Choices.{first, rest, and-fails, and-holds, and-last}
 use Rattle.chips.specs.declared.Facts.{Facts}
 use Rattle.slot.specs.declared.Slot.{Slot}
 use Rattle.steps.specs.declared.Status.{Status}
@@ -66,12 +66,6 @@ module _ (f : Facts) (s : Slot) (n at p : ℕ) (i : Ins) where
 
   pub record Past9 (v : ℕ) : Type 0 where
     pub left : (image : List ℕ) → steps f s image n at p v i ≡ from10 f s n at p i image v
-
--- a second test that fails
-and-last : (a : Bool) {b : Bool} → b ≡ false → a and b ≡ false
-unfolding _and_
-and-last true e = e
-and-last false e = refl
 
 module _ {f : Facts} {s : Slot} {n at p : ℕ} {i : Ins} where
   -- ---- a step that is passed

@@ -1,6 +1,6 @@
 -- Laws of choices: what holds of a chain, two chains alike, and a return that meets one.
 use mathlib.Core.Path.{_≡_, refl, subst⁻¹}
-use mathlib.Core.Bool.{Bool, true, false, true≢false, false≢true}
+use mathlib.Core.Bool.{Bool, true, false, Bool·beq, true≢false, false≢true}
 use mathlib.Core.Logic.{_⊎_, inl, inr}
 use Rattle.words.specs.Choice.{_⇒_⁏_, _and_, _or_, _means_}
 
@@ -50,6 +50,17 @@ unfolding _⇒_⁏_
 choice-ap f true x y = refl
 choice-ap f false x y = refl
 
+-- a choice between equal things, and one whose test cannot hold
+pub same-choice : {A : Type 0} (b : Bool) {x y : A} → x ≡ y → (b ⇒ x ⁏ y) ≡ y
+unfolding _⇒_⁏_
+same-choice true e = e
+same-choice false e = refl
+
+pub never : {A : Type 0} (a : Bool) (x y : A) → (a and false ⇒ x ⁏ y) ≡ y
+unfolding _and_ _⇒_⁏_
+never true x y = refl
+never false x y = refl
+
 -- Tests taken apart.
 pub and-true : (a b : Bool) → a and b ≡ true → (a ≡ true) × (b ≡ true)
 unfolding _and_
@@ -94,6 +105,17 @@ pub and-end : (b : Bool) → b and true ≡ b
 unfolding _and_
 and-end true = refl
 and-end false = refl
+
+-- a second test that fails
+pub and-last : (a : Bool) {b : Bool} → b ≡ false → a and b ≡ false
+unfolding _and_
+and-last true e = e
+and-last false e = refl
+
+-- a test is the same as itself
+pub beq-self : (b : Bool) → Bool·beq b b ≡ true
+beq-self true = refl
+beq-self false = refl
 
 -- A return meets a list of tests where one fails, or where one holds and it meets the rest.
 pub and-fails : {a : Bool} (b : Bool) → a ≡ false → false ≡ (a and b)

@@ -1,3 +1,4 @@
 pub mod Tests
 pub mod Choices
 pub mod Lists
+pub mod Windows

@@ -1,10 +1,10 @@
--- Laws of lists: bytes over a buffer, a run, a part that was lent and came back, stores that miss a place.
-use mathlib.Core.Path.{_≡_, refl, sym, ap, ap₂, _∙_}
+-- Laws of lists: bytes over a buffer, a run, a part that was lent and came back, stores that miss a place; and of numbers.
+use mathlib.Core.Path.{_≡_, refl, sym, ap, ap₂, _∙_, subst}
 use mathlib.Core.List.{List, [], _∷_, _++_, append-assoc, append-nil}
 use mathlib.Core.Bool.{Bool, true, false}
 use mathlib.Core.Logic.{_⊎_, inl, inr}
-use Prim.Native.Nat.{ℕ, zero, suc, _+_, _-_, _*_, _≤_, _<_, min}
-use native.Mathlib.Nat.{add-comm, zero-add, not-suc-le-zero, le-of-suc-le-suc, add-suc, suc-add, add-zero, mul-suc}
+use Prim.Native.Nat.{ℕ, zero, suc, _+_, _-_, _*_, _%_, _≤_, _<_, min}
+use native.Mathlib.Nat.{add-comm, zero-add, not-suc-le-zero, le-of-suc-le-suc, add-suc, suc-add, add-zero, mul-suc, mod-add-mod, mod-eq-of-lt}
 use native.Mathlib.Numerals.{add-one}
 use native.Mathlib.Omega.{arith}
 use lib.ListN.{length, take, drop, set, getD, length-append, length-drop, drop-of-length-le, take-append-drop}
@@ -205,6 +205,9 @@ unfolding same
 same-self [] = refl
 same-self (x ∷ a) = sym (and-holds (eq-eqb x x refl) (sym (same-self a)))
 
+pub same-of : {a b : List ℕ} → a ≡ b → same a b ≡ true
+same-of {a} e = subst (λ (l : List ℕ). same a l ≡ true) e (same-self a)
+
 -- ---- lengths
 pub empty-list : (l : List ℕ) → length l ≡ 0 → l ≡ []
 empty-list [] e = refl
@@ -243,3 +246,16 @@ unfolding _and_
 sum-zero n zero zero t h = and-holds (eq-eqb (0 + n * 0) 0 (omega arith)) refl
 sum-zero n zero (suc b) t h = sym (and-fails t (ne-eqb (suc b) 0 (λ e. omega arith))) ∙ and-fails t (ne-eqb (0 + n * suc b) 0 (λ e. omega (arith, mul-suc n b)))
 sum-zero n (suc a) b t h = sym (and-fails (b is 0 and t) (ne-eqb (suc a) 0 (λ e. omega arith))) ∙ and-fails t (ne-eqb (suc a + n * b) 0 (λ e. omega arith))
+
+-- ---- numbers
+-- the next number has the next remainder, unless it is a multiple
+pub mod-next : (x m : ℕ) → x % m + 1 < m → (x + 1) % m ≡ x % m + 1
+mod-next x m h = sym (mod-add-mod x m 1) ∙ mod-eq-of-lt h
+
+-- a loop that goes on by k has less before it
+pub closer : (n i k : ℕ) → i < n → 0 < k → n - (i + k) < n - i
+closer n i k h p = omega arith
+
+-- the same four numbers give the same
+pub same-four : {A : Type 0} {x x′ y y′ z z′ w w′ : ℕ} → x ≡ x′ → y ≡ y′ → z ≡ z′ → w ≡ w′ → (g : ℕ → ℕ → ℕ → ℕ → A) → g x y z w ≡ g x′ y′ z′ w′
+same-four p q r s g = cc

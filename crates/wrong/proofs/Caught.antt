@@ -2,16 +2,16 @@
 -- not alike are not met by one reply, image and answer buffer.
 use Prim.Native.Nat.{ℕ, _+_}
 use mathlib.Core.Path.{_≡_, refl, sym, ap, _∙_, subst}
-use mathlib.Core.Bool.{Bool, true, false, Bool·beq}
+use mathlib.Core.Bool.{Bool, true, false}
 use mathlib.Core.List.{List, [], _∷_}
 use native.Mathlib.Omega.{arith}
 use lib.ListN.{length, take, drop}
 use lib.Seq.{drop-append-seam}
 use borrow.Author.Tests.{eq-eqb, not-true}
 use Rattle.words.specs.Choice.{_⇒_⁏_}
-use Rattle.words.specs.Bytes.{same, over}
-use Rattle.words.proofs.Choices.{both, no-test}
-use Rattle.words.proofs.Lists.{front-over, same-self}
+use Rattle.words.specs.Bytes.{over}
+use Rattle.words.proofs.Choices.{both, no-test, beq-self}
+use Rattle.words.proofs.Lists.{front-over, same-of}
 use Rattle.slot.specs.declared.Slot.{Slot}
 use Rattle.record.specs.Raw.{kindOf}
 use Rattle.frame.specs.declared.Reply.{Reply}
@@ -23,13 +23,6 @@ use Rattle.wrong.specs.Caught.{Call, GivesEach, Refuted, EachRefuted}
 use Rattle.wrong.specs.Witnesses.{wrongReaders, witnesses}
 
 -- ---- what is equal is alike
-pub same-of : {a b : List ℕ} → a ≡ b → same a b ≡ true
-same-of {a} e = subst (λ (l : List ℕ). same a l ≡ true) e (same-self a)
-
-beq-self : (b : Bool) → Bool·beq b b ≡ true
-beq-self true = refl
-beq-self false = refl
-
 slot-self : (s : Slot) → likeSlot s s ≡ true
 unfolding likeSlot
 slot-self s =

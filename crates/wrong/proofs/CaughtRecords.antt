@@ -6,6 +6,7 @@ use mathlib.Core.List.{List, [], _∷_}
 use lib.IntN.{ℤ, pos, negsuc}
 use borrow.Author.Tests.{eq-eqb, not-true}
 use Rattle.words.proofs.Choices.{both, no-test}
+use Rattle.words.proofs.Lists.{same-of}
 use Rattle.record.specs.Raw.{rawOf, blank, slotWith, cardWith, slotOf}
 use Rattle.frame.specs.declared.Verdict.{Verdict}
 use Rattle.reader.specs.declared.Meant.{Meant}
@@ -15,7 +16,7 @@ use Rattle.calls.specs.Calls.{RawOutcome, keeping, brokenAs, rawServed, rawFron
 use Rattle.vectors.specs.Sessions.{selectedSlot, image4442, transfer}
 use Rattle.wrong.specs.WrongRecords.{RawWitness, byRawMessage, byRawInsertion, byRawRemoval, byResult, likeRaw, likeResult, rawCaught, rawUncaught}
 use Rattle.wrong.specs.WrongRecords.{RawApart, RawRefuted, EachRawRefuted, wrongRecords, rawTests, frontedBy, recordBy}
-use Rattle.wrong.proofs.Caught.{same-of, answer-met, none-left}
+use Rattle.wrong.proofs.Caught.{answer-met, none-left}
 
 -- the record read by our own reading is our reader
 pub record-ours : (r image m : List ℕ) (room : ℕ) → recordBy slotOf r image m room ≡ rawExchange r image m room

@@ -2,11 +2,11 @@
 -- wrong by the part that its definition names, and by nothing else.
 use Prim.Native.Nat.{ℕ}
 use mathlib.Core.Path.{_≡_, refl, sym, ap, _∙_, subst⁻¹}
-use mathlib.Core.Bool.{Bool, true, false, true≢false}
+use mathlib.Core.Bool.{false, true≢false}
 use mathlib.Core.List.{List, [], _∷_}
 use borrow.Author.Tests.{not-true}
 use Rattle.words.specs.Choice.{_⇒_⁏_, _and_, _is_}
-use Rattle.words.proofs.Choices.{either, past, rest, and-true}
+use Rattle.words.proofs.Choices.{either, past, rest, and-true, same-choice, never}
 use Rattle.chips.specs.declared.Chip.{Chip}
 use Rattle.chips.specs.declared.Known.{Known}
 use Rattle.chips.specs.declared.Known.the-variants.{Is, Unknown}
@@ -35,12 +35,6 @@ use Rattle.wrong.specs.Wrong.{doing, atWrong, atRight, insertsAs, insert
 -- a reader gives what ours gives, at every input
 abbrev pub Ours : Reader → Type 0
 Ours read = (s : Slot) (image m : List ℕ) (room : ℕ) → read s image m room ≡ exchange s image m room
-
--- a choice between equal things
-same-choice : {A : Type 0} (b : Bool) {x y : A} → x ≡ y → (b ⇒ x ⁏ y) ≡ y
-unfolding _⇒_⁏_
-same-choice true e = e
-same-choice false e = refl
 
 pub upon-ours : (type : ℕ) → Ours (upon type (λ s image o. o))
 unfolding upon
@@ -140,11 +134,6 @@ unfolding atRight doing
 at-right-ours = commanding-ours _ (λ f s i d. same-choice _ (same-choice _ refl))
 
 -- where its test holds nowhere, nothing comes sooner, nothing more is let through and nothing more is barred
-never : {A : Type 0} (a : Bool) (x y : A) → (a and false ⇒ x ⁏ y) ≡ y
-unfolding _and_ _⇒_⁏_
-never true x y = refl
-never false x y = refl
-
 pub sooner-ours : (earlier later : Status) → Ours (sooner earlier (λ f s i d. false) later)
 unfolding sooner
 sooner-ours earlier later = ordering-ours _ (λ f s i d. never _ _ _)

@@ -18,8 +18,8 @@ use Rattle.card.proofs.is_card.Statement.{statement}
 use Rattle.card.proofs.is_card.Tie as tie
 
 -- what each test that is passed shows
-whole : (c : tie.Else1) → let a = c .before .before .before .before .args in length (a .image .now) ≡ facts (a .chip) .size
-whole c = c .if1 .left ∙ ap (λ (f : Facts). f .size) (c .before .before .facts .ensures)
+image-sized : (c : tie.Else1) → let a = c .before .before .before .before .args in length (a .image .now) ≡ facts (a .chip) .size
+image-sized c = c .if1 .left ∙ ap (λ (f : Facts). f .size) (c .before .before .facts .ensures)
 
 with-code : (c : tie.Else2) → facts (c .before .before .before .before .before .before .before .args .chip) .coded ≡ true
 with-code c = sym (ap (λ (f : Facts). f .coded) (c .before .before .facts2 .ensures)) ∙ not-false _ (c .if2 .left)
@@ -47,7 +47,7 @@ returns-2 : tie.Need-returns-2
 returns-2 c =
     let chip = c .before .before .before .before .before .before .before .args .chip in
     let none : facts chip .coded ≡ false = sym (ap (λ (f : Facts). f .coded) (c .before .before .facts2 .ensures)) ∙ not-true _ (c .if2 .taken) in
-    sym (card-whole (facts chip) _ (plain-card chip _ none (whole (c .before .before .before))))
+    sym (card-whole (facts chip) _ (plain-card chip _ none (image-sized (c .before .before .before))))
 
 facts-requires-3 : tie.Need-facts-requires-3
 facts-requires-3 c κs = search needs
@@ -60,7 +60,7 @@ shared-slice-read-if3 c =
     let on = c .before .before .before in
     let chip = on .before .before .before .before .before .before .before .args .chip in
     let at : c .before .before .facts3 .result .counter ≡ facts chip .counter = ap (λ (f : Facts). f .counter) (c .before .before .facts3 .ensures) in
-    omega (arith, at, coded chip (with-code on) .inside, whole (on .before .before .before))
+    omega (arith, at, coded chip (with-code on) .inside, image-sized (on .before .before .before))
 
 returns-3 : tie.Need-returns-3
 unfolding isCard
@@ -69,7 +69,7 @@ returns-3 c =
     let at : c .before .before .before .before .facts3 .result .counter ≡ facts (a .chip) .counter =
     ap (λ (f : Facts). f .counter) (c .before .before .before .before .facts3 .ensures) in
     let full : c .before .before .before .facts4 .result .full ≡ facts (a .chip) .full = ap (λ (f : Facts). f .full) (c .before .before .before .facts4 .ensures) in
-    and-holds (eq-eqb _ _ (whole (c .before .before .before .before .before .before .before .before)))
+    and-holds (eq-eqb _ _ (image-sized (c .before .before .before .before .before .before .before .before)))
     (and-fails _ (lt-leb (byte (a .image .now) (facts (a .chip) .counter)) (facts (a .chip) .full) (omega (arith, ap (byte (a .image .now)) at, full, c .if3 .taken))))
 
 facts-requires-5 : tie.Need-facts-requires-5
@@ -84,7 +84,7 @@ protected-requires c κs =
     let chip = on .before .before .before .before .before .before .before .before .before .before .before .before .args .chip in
     let bits : c .before .facts5 .result .bits ≡ facts chip .bits = ap (λ (f : Facts). f .bits) (c .before .facts5 .ensures) in
     let covered : c .facts6 .result .covered ≡ facts chip .covered = ap (λ (f : Facts). f .covered) (c .facts6 .ensures) in
-    omega (arith, bits, covered, laid chip .guards, whole (on .before .before .before .before .before .before .before .before))
+    omega (arith, bits, covered, laid chip .guards, image-sized (on .before .before .before .before .before .before .before .before))
 
 returns-4 : tie.Need-returns-4
 unfolding isCard
@@ -96,7 +96,7 @@ returns-4 c =
     let e6 = c .before .facts6 .ensures in
     let e3 = on .before .before .before .before .facts3 .ensures in
     let p : c .protected .result ≡ isProtected (f .bits) (f .covered) (a .image .now) (f .counter) = cc in
-    and-holds (eq-eqb _ _ (whole (on .before .before .before .before .before .before .before .before)))
+    and-holds (eq-eqb _ _ (image-sized (on .before .before .before .before .before .before .before .before)))
     (and-holds (le-leb (byte (a .image .now) (f .counter)) (f .full) (within on)) (ap not p))
 
 pub is-card-spec : {M : Type 1} → statement M

@@ -7,7 +7,7 @@ use Prim.Native.Nat.{ℕ}
 use lib.ListN.{length}
 use Rattle.words.specs.Bytes.{byte, over}
 use Rattle.words.proofs.Choices.{taken, passed}
-use Rattle.words.proofs.Lists.{over-pair}
+use Rattle.words.proofs.Lists.{over-pair, same-four}
 use Rattle.chips.specs.declared.Facts.{Facts}
 use Rattle.chips.specs.Kinds.{facts}
 use Rattle.chips.proofs.KindLaws.{laid, coded}
@@ -35,10 +35,6 @@ present-requires c κs =
     (omega (arith, coded chip (start .pre .2) .inside, counter), omega (arith, laid chip .codes, code))
 
 -- ---- what the presentation left
--- the same four numbers give the same
-alike : {A : Type 0} {x x′ y y′ z z′ w w′ : ℕ} → x ≡ x′ → y ≡ y′ → z ≡ z′ → w ≡ w′ → (g : ℕ → ℕ → ℕ → ℕ → A) → g x y z w ≡ g x′ y′ z′ w′
-alike p q r s g = cc
-
 numbers : {A : Type 0} (p : tie.After-present) (g : ℕ → ℕ → ℕ → ℕ → A) → let a = p .before .before .before .before .before .before .before .before .args in
     let f = facts (a .chip) in
     g (p .before .before .before .before .facts .result .counter) (p .before .before .facts2 .result .full) (p .before .facts3 .result .code)
@@ -47,13 +43,13 @@ numbers : {A : Type 0} (p : tie.After-present) (g : ℕ → ℕ → ℕ → ℕ 
 numbers p g =
     let at-facts = p .before .before .before .before in
     let start = at-facts .before .before .before .before in
-    alike (ap (λ (f : Facts). f .counter) (at-facts .facts .ensures)) (ap (λ (f : Facts). f .full) (p .before .before .facts2 .ensures))
+    same-four (ap (λ (f : Facts). f .counter) (at-facts .facts .ensures)) (ap (λ (f : Facts). f .full) (p .before .before .facts2 .ensures))
     (ap (λ (f : Facts). f .code) (p .before .facts3 .ensures)) (start .pre .3) g
 
-after : (p : tie.After-present) → let a = p .before .before .before .before .before .before .before .before .args in
+code-after : (p : tie.After-present) → let a = p .before .before .before .before .before .before .before .before .args in
     p .present .last .0
     ≡ afterCode (facts (a .chip)) (a .image .now) (a .guess .now)
-after p =
+code-after p =
     let start = p .before .before .before .before .before .before .before .before in
     let a = start .args in
     p .present .ensures .1 ∙ numbers p (λ x y z w. presenting x y z w (a .image .now) (a .guess .now))
@@ -66,12 +62,12 @@ right p =
     let a = start .args in
     sym (p .present .ensures .0 ∙ numbers p (λ x y z w. accepts x y z w (a .image .now) (a .guess .now)))
 
-told : (p : tie.After-present) → let a = p .before .before .before .before .before .before .before .before .args in
+counter-after : (p : tie.After-present) → let a = p .before .before .before .before .before .before .before .before .args in
     byte (p .present .last .0) (p .before .before .before .before .facts .result .counter)
     ≡ byte (afterCode (facts (a .chip)) (a .image .now) (a .guess .now)) (facts (a .chip) .counter)
-told p =
+counter-after p =
     let at-facts = p .before .before .before .before in
-    ap₂ byte (after p) (ap (λ (f : Facts). f .counter) (at-facts .facts .ensures))
+    ap₂ byte (code-after p) (ap (λ (f : Facts). f .counter) (at-facts .facts .ensures))
 
 slice-read-put-two : tie.Need-slice-read-put-two
 slice-read-put-two c =
@@ -81,7 +77,7 @@ slice-read-put-two c =
     let f = facts (a .chip) in
     let counter = ap (λ (f : Facts). f .counter) (p .before .before .before .before .facts .ensures) in
     let e : length (p .present .last .0) ≡ length (a .image .now) =
-    ap length (after p) ∙ length-presenting (f .counter) (f .full) (f .code) (f .digits) (a .image .now) (a .guess .now) in
+    ap length (code-after p) ∙ length-presenting (f .counter) (f .full) (f .code) (f .digits) (a .image .now) (a .guess .now) in
     omega (arith, e, coded (a .chip) (start .pre .2) .inside, counter)
 
 put-two-requires : tie.Need-put-two-requires
@@ -93,7 +89,7 @@ said : (q : tie.After-put-two) → let p = q .before .before .before .before .be
 said q =
     let p = q .before .before .before .before .before in
     let a = p .before .before .before .before .before .before .before .before .args in
-    q .put-two .ensures .1 ∙ over-pair (a .out .now) 0x90 _ (omega arith) ∙ ap (λ (x : ℕ). over (0x90 ∷ x ∷ []) (a .out .now)) (told p)
+    q .put-two .ensures .1 ∙ over-pair (a .out .now) 0x90 _ (omega arith) ∙ ap (λ (x : ℕ). over (0x90 ∷ x ∷ []) (a .out .now)) (counter-after p)
 
 open-requires : tie.Need-open-requires
 open-requires c κs = search needs
@@ -110,7 +106,7 @@ unfolding performed saidBy imageBy slotBy
 returns c =
     let q = c .before .before .before .before in
     let p = q .before .before .before .before .before in
-    record { len = q .put-two .ensures .0; slot = c .«open» .ensures ∙ taken _ (right p ∙ c .before .if1 .taken); image = after p; out = said q }
+    record { len = q .put-two .ensures .0; slot = c .«open» .ensures ∙ taken _ (right p ∙ c .before .if1 .taken); image = code-after p; out = said q }
 
 close-requires : tie.Need-close-requires
 close-requires c κs = search needs
@@ -126,7 +122,7 @@ unfolding performed saidBy imageBy slotBy
 returns-2 c =
     let q = c .before .before .before .before in
     let p = q .before .before .before .before .before in
-    record { len = q .put-two .ensures .0; slot = c .close .ensures ∙ passed _ (right p ∙ c .before .if1 .left) refl; image = after p; out = said q }
+    record { len = q .put-two .ensures .0; slot = c .close .ensures ∙ passed _ (right p ∙ c .before .if1 .left) refl; image = code-after p; out = said q }
 
 pub present-spec : {M : Type 1} → statement M
 present-spec =

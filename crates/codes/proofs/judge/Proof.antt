@@ -32,24 +32,24 @@ same-length : tie.Need-same-length
 same-length c = search needs
 
 -- what the comparison says, in the rule's words
-told : (c : tie.After-same-bytes) →
+codes-compared : (c : tie.After-same-bytes) →
     let a = c .before .before .before .before .before .args in
     c .same-bytes .result ≡ same (a .guess .now) (codeIn (a .code) (length (a .guess .now)) (a .image .now))
-told c =
+codes-compared c =
     let a = c .before .before .before .before .before .args in
     let e : a .code + length (a .guess .now) - a .code ≡ length (a .guess .now) = omega arith in
     c .same-bytes .ensures ∙ ap (λ (n : ℕ). same (a .guess .now) (take n (drop (a .code) (a .image .now)))) e
 
 returns : tie.Need-returns
 unfolding judging
-returns c = (sym (sym (told (c .before)) ∙ c .if1 .taken), taken _ (sym (told (c .before)) ∙ c .if1 .taken))
+returns c = (sym (sym (codes-compared (c .before)) ∙ c .if1 .taken), taken _ (sym (codes-compared (c .before)) ∙ c .if1 .taken))
 
 same-length-2 : tie.Need-same-length-2
 same-length-2 c = search needs
 
 returns-2 : tie.Need-returns-2
 unfolding judging
-returns-2 c = (sym (sym (told (c .before)) ∙ c .if1 .left), passed _ (sym (told (c .before)) ∙ c .if1 .left) refl)
+returns-2 c = (sym (sym (codes-compared (c .before)) ∙ c .if1 .left), passed _ (sym (codes-compared (c .before)) ∙ c .if1 .left) refl)
 
 pub judge-spec : {M : Type 1} → statement M
 judge-spec =

@@ -23,8 +23,8 @@ tries-left-requires : tie.Need-tries-left-requires
 tries-left-requires c κs = search needs
 
 -- the counter where no try is left, and where one is
-none-left : (c : tie.Then1) → let a = c .before .before .before .before .before .args in byte (a .image .now) (a .counter) ≡ 0
-none-left c =
+no-try : (c : tie.Then1) → let a = c .before .before .before .before .before .args in byte (a .image .now) (a .counter) ≡ 0
+no-try c =
     let a = c .before .before .before .before .before .args in
     tries-zero (byte (a .image .now) (a .counter)) (omega (arith, c .before .before .slice-known2 .given (a .counter))) (sym (c .before .tries-left .ensures) ∙ c .if1 .taken)
 
@@ -33,7 +33,7 @@ some-left c e = c .if1 .left (c .before .tries-left .ensures ∙ ap tries e ∙ 
 
 returns : tie.Need-returns
 unfolding presenting accepts
-returns c = (and-fails _ (ap not (eq-eqb _ 0 (none-left c))), taken _ (eq-eqb _ 0 (none-left c)))
+returns c = (and-fails _ (ap not (eq-eqb _ 0 (no-try c))), taken _ (eq-eqb _ 0 (no-try c)))
 
 spend-try-requires : tie.Need-spend-try-requires
 spend-try-requires c κs = search needs

@@ -11,6 +11,7 @@ use Rattle.pages.specs.Pages.{cutStart, lands, pageWrite}
 use Rattle.pages.proofs.PageLaws.{cut-le, lands-inside, page-inside, write-run, write-end}
 use Rattle.pages.proofs.write_round.Statement.{statement}
 use Rattle.pages.proofs.write_round.Tie as tie
+use Rattle.words.proofs.Lists.{closer}
 
 abbrev Inv-loop : tie.InvT-loop
 Inv-loop image₀ at «data» reader chip start₀ i₀ image start i =
@@ -145,9 +146,6 @@ run-some c =
     let page : 0 < c .before .least .result =
     rw (c .before .least .ensures) (some-min _ _ (omega (arith, left-reader (c .before .before))) (omega (arith, left-chip (c .before .before)))) in
     rw (c .least2 .ensures) (some-min _ _ page (omega arith))
-
-closer : (n i k : ℕ) → i < n → 0 < k → n - (i + k) < n - i
-closer n i k h p = omega arith
 
 loop-less : tie.Need-loop-less Inv-loop μ-loop
 loop-less c = closer _ _ _ (omega arith) (run-some (c .before .before .before .before .before))

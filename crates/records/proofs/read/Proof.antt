@@ -49,11 +49,11 @@ mark-of-requires c κs = search needs
 
 -- ---- what stands at the place, behind the first two tests
 -- by its mark
-found : (p : tie.After-mark-of) {r : Record} (marked : Marked) → p .mark-of .result ≡ marked
+marked-found : (p : tie.After-mark-of) {r : Record} (marked : Marked) → p .mark-of .result ≡ marked
     → let a = p .before .before .before .before .before .before .before .before .args in r ≡ bodyAt marked (a .input .now) (a .at)
     → r ≡ recordAt (a .input .now) (a .at)
 unfolding recordAt
-found p marked k h =
+marked-found p marked k h =
     let at-wide2 = p .before in
     let at-wide = at-wide2 .before .before in
     let at-if2 = at-wide .before .before in
@@ -78,7 +78,7 @@ enum-told c = search needs
 
 returns-3 : tie.Need-returns-3
 unfolding recordAt bodyAt
-returns-3 c = found (c .before .before) _ (c .enum-told .given .1) refl
+returns-3 c = marked-found (c .before .before) _ (c .enum-told .given .1) refl
 
 add-wide-2 : tie.Need-add-wide-2
 add-wide-2 c = search needs
@@ -115,7 +115,7 @@ returns-4 c =
     let a = at-marked .before .before .before .before .before .before .before .before .before .before .args in
     let n : ℕ = lengthAt (a .input .now) (a .at) in
     let long : most (at-marked .marked .given .0 .0) < n = omega (arith, length-is p, c .before .most .ensures, c .if3 .taken) in
-    found (at-marked .before .before) _ (at-marked .marked .given .1) (taken _ (lt-ltb _ _ long))
+    marked-found (at-marked .before .before) _ (at-marked .marked .given .1) (taken _ (lt-ltb _ _ long))
 
 add-start : tie.Need-add-start
 add-start c = search needs
@@ -132,7 +132,7 @@ returns-5 c =
     let n : ℕ = lengthAt (a .input .now) (a .at) in
     let small : n ≤ most (at-marked .marked .given .0 .0) = omega (arith, length-is p, c .before .before .most .ensures, c .before .if3 .left) in
     let cut : length (a .input .now) - (a .at + 4) < n = omega (arith, length-is p, c .if4 .taken) in
-    found (at-marked .before .before) _ (at-marked .marked .given .1) (passed _ (le-ltb _ _ small) (taken _ (lt-ltb _ _ cut)))
+    marked-found (at-marked .before .before) _ (at-marked .marked .given .1) (passed _ (le-ltb _ _ small) (taken _ (lt-ltb _ _ cut)))
 
 add-t12 : tie.Need-add-t12
 add-t12 c = omega (arith, c .before .before .before .before .before .wide3 .ensures .1, c .before .before .before .wide4 .ensures .1, c .if4 .left)
@@ -147,7 +147,7 @@ returns-6 c =
     let small : n ≤ most (at-marked .marked .given .0 .0) = omega (arith, length-is p, c .before .before .most .ensures, c .before .if3 .left) in
     let whole : n ≤ length (a .input .now) - (a .at + 4) = omega (arith, length-is p, c .if4 .left) in
     let ends = ap (λ (e : ℕ). Record.Whole (at-marked .marked .given .0 .0) (a .at + 4) (a .at + 4 + e)) (length-is p) in
-    found (at-marked .before .before) _ (at-marked .marked .given .1) (passed _ (le-ltb _ _ small) (passed _ (le-ltb _ _ whole) ends))
+    marked-found (at-marked .before .before) _ (at-marked .marked .given .1) (passed _ (le-ltb _ _ small) (passed _ (le-ltb _ _ whole) ends))
 
 pub read-spec : {M : Type 1} → statement M
 read-spec =
