@@ -38,6 +38,12 @@ static struct row rows[ROWS];
 static size_t row_count;
 static uint8_t record[32], image[LARGEST], answer[271];
 
+// Parameter sets as the record has them: a protocol number and seven bytes.
+static const uint8_t default_set[8] = { 0, 0x11, 0x00, 0x00, 0x0a, 0x00 };
+static const uint8_t t0_set[8] = { 0, 0x92, 0x02, 0x01, 0x0b, 0x01 };
+static const uint8_t t1_set[8] = { 1, 0x95, 0x11, 0xff, 0x9f, 0x03, 0xfe, 0x00 };
+static const uint8_t bad_set[8] = { 1, 0x95, 0x11, 0xff, 0x9f, 0x03, 0xfe, 0x01 };
+
 // ---- the cards
 
 static size_t image_len_of(uint8_t kind) {
@@ -89,6 +95,7 @@ static struct row *add(const char *name, uint8_t kind, uint8_t type, size_t n) {
     row->record[1] = 1;
     row->record[2] = (uint8_t)(kind == SLE4428 ? 5 : kind == SLE4442 ? 6 : kind < 6 ? 1 : 2);
     row->record[3] = 8;
+    memcpy(row->record + 5, default_set, 8);
     row->message[0] = type;
     row->message[1] = (uint8_t)n;
     row->message[2] = (uint8_t)(n >> 8);
@@ -115,6 +122,17 @@ static struct row *add_command(const char *name, uint8_t kind, uint8_t ins, size
 static struct row *open_card(struct row *row) {
     row->record[4] = 1;
     return row;
+}
+
+// The record has the set in bytes 5 to 12.
+static void store_set(struct row *row, const uint8_t *set) { memcpy(row->record + 5, set, 8); }
+
+// A 61h that brings the set.
+static void add_set(const char *name, uint8_t kind, const uint8_t *set) {
+    size_t n = set[0] ? 7 : 5;
+    struct row *row = add(name, kind, 0x61, n);
+    row->message[7] = set[0];
+    memcpy(row->message + 10, set + 1, n);
 }
 
 static void add_read(const char *name, uint8_t kind, size_t at, size_t p3) { add_command(name, kind, 0xb0, at, p3, 0); }
@@ -176,8 +194,10 @@ static void make_rows(void) {
         add_command("refused, 2: short message", ends[i], 0xb0, 0, 16, 0)->message_len = 9;
         add_command("refused, 3: short image", ends[i], 0xb0, 0, 16, 0)->image_len--;
         add_command("refused, 4: last byte of the record", ends[i], 0xb0, 0, 16, 0)->record[31] = 1;
-        add("fault: unsupported type", ends[i], 0x61, 0);
+        store_set(add_command("refused, 4: last byte of the set", ends[i], 0xb0, 0, 16, 0), bad_set);
+        add("fault: unsupported type", ends[i], 0x64, 0);
         add_command("fault: dwLength", ends[i], 0xb0, 0, 16, 0)->message[4] = 1;
+        add_set("fault: last byte of a set", ends[i], bad_set);
         add_command("step 1: short command", ends[i], 0xb0, 0, 16, 0);
         row = &rows[row_count - 1];
         row->message_len = 14;
@@ -209,6 +229,15 @@ static void make_rows(void) {
     row = add("slot status", 0, 0x65, 0);
     row->image_len = 0;
     memset(row->record, 0, 3);
+
+    for (size_t i = 0; i < 2; i++) {
+        add("get parameters, T=0", ends[i], 0x6c, 0);
+        store_set(add("get parameters, T=1", ends[i], 0x6c, 0), t1_set);
+        add_set("set parameters, T=0", ends[i], t0_set);
+        add_set("set parameters, T=1", ends[i], t1_set);
+        store_set(add("reset parameters", ends[i], 0x6d, 0), t1_set);
+        store_set(add_command("read 16 bytes, T=1 stored", ends[i], 0xb0, 0x20, 16, 0), t1_set);
+    }
 }
 
 // ---- calls
@@ -252,6 +281,36 @@ static int both_agree(void) {
             return 0;
         }
     }
+    return 1;
+}
+
+// Whether they give the same result and record for an insertion and for a removal.
+static int both_agree_on(uint8_t in, uint8_t fill, size_t length, uint8_t kind) {
+    uint8_t ours[32], theirs[32];
+    memset(ours, fill, sizeof ours);
+    ours[0] = in;
+    memcpy(theirs, ours, sizeof ours);
+    make_card(kind);
+    int same = card_reader_insert(ours, length, kind, image, image_len_of(kind)) ==
+               plain_insert(theirs, length, kind, image, image_len_of(kind));
+    same &= !memcmp(ours, theirs, sizeof ours);
+    memset(ours + 1, fill, sizeof ours - 1);
+    memset(theirs + 1, fill, sizeof theirs - 1);
+    same &= card_reader_remove(ours, length) == plain_remove(theirs, length);
+    return same && !memcmp(ours, theirs, sizeof ours);
+}
+
+// The same of cards that go in and out, over records whatever is in them.
+static int both_agree_on_cards(void) {
+    static const uint8_t kinds[] = { I2C_SMALL, I2C_LARGE, SLE4428, SLE4442 };
+    for (size_t i = 0; i < sizeof kinds; i++)
+        for (unsigned fill = 0; fill < 256; fill += 51)
+            for (size_t length = 31; length <= 32; length++)
+                for (uint8_t in = 0; in < 2; in++)
+                    if (!both_agree_on(in, (uint8_t)fill, length, kinds[i])) {
+                        dprintf(2, "bench: the readers differ: a card in and out, %s\n", card_of(kinds[i]));
+                        return 0;
+                    }
     return 1;
 }
 
@@ -485,7 +544,7 @@ int main(int argc, char **argv) {
     for (const char *digit = argc == 3 ? argv[2] : ""; *digit >= '0' && *digit <= '9' && rounds < 100; digit++)
         rounds = rounds * 10 + (unsigned)(*digit - '0');
     make_rows();
-    if (!both_agree())
+    if (!both_agree() || !both_agree_on_cards())
         return 1;
     if (argc == 3 && rounds > 0 && !strcmp(argv[1], "time"))
         time_rows(rounds);

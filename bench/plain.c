@@ -5,8 +5,9 @@
 #include <string.h>
 
 enum { RECORD = 32, HEADER = 10, ANSWER_BUFFER = 271, LONGEST_DATA = 261 };
-enum { KIND = 0, ACTIVE = 1, SELECTED = 2, PAGE = 3, OPEN = 4 };
-enum { POWER_ON = 0x62, POWER_OFF = 0x63, SLOT_STATUS = 0x65, TRANSFER = 0x6f };
+enum { KIND = 0, ACTIVE = 1, SELECTED = 2, PAGE = 3, OPEN = 4, PROTOCOL = 5, SET = 6 };
+enum { SET_PARAMETERS = 0x61, POWER_ON = 0x62, POWER_OFF = 0x63, SLOT_STATUS = 0x65 };
+enum { GET_PARAMETERS = 0x6c, RESET_PARAMETERS = 0x6d, TRANSFER = 0x6f };
 enum { SLE4428 = 0x05, SLE4442 = 0x06 };
 enum { REFUSED_BUFFER = -1, REFUSED_MESSAGE = -2, REFUSED_IMAGE = -3, REFUSED_RECORD = -4, REFUSED_OCCUPIED = -5 };
 enum {
@@ -60,20 +61,55 @@ static inline const struct chip *chip_of(uint8_t kind, const uint8_t *image, siz
     return chip;
 }
 
-// Whether all is 00h behind the record's five bytes.
+// The record without a card. Its eight bytes from PROTOCOL on are the default set: a protocol number,
+// its bytes, and 00h for the two that T=0 lacks.
+static const uint8_t no_card[RECORD] = { [PAGE] = 8, [SET] = 0x11, [SET + 3] = 0x0a };
+
+// The entries that ISO/IEC 7816-3:1997 reserves, a bit each.
+enum { RESERVED_FI = 1 << 7 | 1 << 8 | 1 << 14 | 1 << 15, RESERVED_DI = 1 << 0 | 1 << 7 | 0x3f << 10 };
+
+// The bError that 61h gives for a set, or 0 where it takes it.
+static inline unsigned set_fault(unsigned protocol, const uint8_t *set, size_t n) {
+    if (protocol > 1 || n != 5 + 2 * protocol)
+        return 0x07;
+    if ((RESERVED_FI >> (set[0] >> 4) | RESERVED_DI >> (set[0] & 15)) & 1)
+        return 0x0a;
+    if (set[1] >> 2 != protocol << 2)
+        return 0x0b;
+    if (protocol && set[3] >> 4 > 9)
+        return 0x0d;
+    if (set[4] > 3)
+        return 0x0e;
+    if (protocol && set[6])
+        return 0x10;
+    return 0;
+}
+
+static inline void set_default(uint8_t *record) { memcpy(record + PROTOCOL, no_card + PROTOCOL, 8); }
+
+// Whether 61h would take the stored set. Most often it is the default.
+static inline int set_is_sound(const uint8_t *record, const struct chip *chip) {
+    if (!memcmp(record + PROTOCOL, no_card + PROTOCOL, 8))
+        return 1;
+    unsigned protocol = record[PROTOCOL];
+    if (!chip || protocol > 1 || set_fault(protocol, record + SET, 5 + 2 * protocol))
+        return 0;
+    return protocol || !(record[SET + 5] | record[SET + 6]);
+}
+
+// Whether all is 00h behind the parameters.
 static inline int rest_is_blank(const uint8_t *record) {
-    uint64_t a, b, c;
-    uint32_t d;
-    memcpy(&a, record + 5, 8);
-    memcpy(&b, record + 13, 8);
-    memcpy(&c, record + 21, 8);
-    memcpy(&d, record + 28, 4);
-    return (a | b | c | d) == 0;
+    uint64_t a, b;
+    uint32_t c;
+    memcpy(&a, record + 13, 8);
+    memcpy(&b, record + 21, 8);
+    memcpy(&c, record + 28, 4);
+    return (a | b | c) == 0;
 }
 
 static inline int is_sound(const uint8_t *record, const struct chip *chip, const uint8_t *image) {
     uint8_t page = record[PAGE], selected = record[SELECTED], open = record[OPEN];
-    if (record[ACTIVE] > 1 || open > 1 || !rest_is_blank(record))
+    if (record[ACTIVE] > 1 || open > 1 || !rest_is_blank(record) || !set_is_sound(record, chip))
         return 0;
     if (page < 8 || page > 128 || (page & (page - 1)))
         return 0;
@@ -291,6 +327,16 @@ static inline int32_t answered(uint8_t *restrict answer, const uint8_t *restrict
     return (int32_t)(HEADER + n);
 }
 
+// The set as it is stored: its bytes, and byte 9 is its protocol number.
+static int32_t answered_set(uint8_t *restrict answer, const uint8_t *restrict message, const uint8_t *restrict record) {
+    memcpy(answer + HEADER, record + SET, 5);
+    if (record[PROTOCOL])
+        memcpy(answer + HEADER + 5, record + SET + 5, 2);
+    int32_t length = answered(answer, message, 0x82, record[PROTOCOL] ? 7 : 5, !record[ACTIVE], 0, 0);
+    answer[9] = record[PROTOCOL];
+    return length;
+}
+
 int32_t plain_message(uint8_t *restrict record, size_t record_len, uint8_t *restrict image, size_t image_len,
                       const uint8_t *restrict message, size_t message_len, uint8_t *restrict answer,
                       size_t answer_len) {
@@ -335,6 +381,7 @@ int32_t plain_message(uint8_t *restrict record, size_t record_len, uint8_t *rest
             break;
         record[ACTIVE] = 1;
         record[SELECTED] = record[OPEN] = 0;
+        set_default(record);
         out[0] = 0x3b;
         out[1] = chip->full ? 0x04 : 0x00;
         if (chip->full)
@@ -348,6 +395,30 @@ int32_t plain_message(uint8_t *restrict record, size_t record_len, uint8_t *rest
         if (message[0] == POWER_OFF)
             record[ACTIVE] = record[SELECTED] = record[OPEN] = 0;
         return answered(answer, message, 0x81, 0, !chip ? 2 : !record[ACTIVE], 0, 0);
+    case SET_PARAMETERS:
+        type = 0x82;
+        error = said != n || (n != 5 && n != 7) ? 0x01
+                : message[5]                    ? 0x05
+                                                : set_fault(message[7], message + HEADER, n);
+        if (!error && !chip)
+            error = 0xfe;
+        if (error)
+            break;
+        // The seventh byte, NAD, is 00h wherever a set has it.
+        record[PROTOCOL] = message[7];
+        memcpy(record + SET, message + HEADER, 5);
+        record[SET + 5] = n == 7 ? message[HEADER + 5] : 0;
+        record[SET + 6] = 0;
+        return answered_set(answer, message, record);
+    case GET_PARAMETERS:
+    case RESET_PARAMETERS:
+        type = 0x82;
+        error = said || n ? 0x01 : message[5] ? 0x05 : !chip ? 0xfe : 0;
+        if (error)
+            break;
+        if (message[0] == RESET_PARAMETERS)
+            set_default(record);
+        return answered_set(answer, message, record);
     default:
         error = 0;
     }
@@ -355,9 +426,8 @@ int32_t plain_message(uint8_t *restrict record, size_t record_len, uint8_t *rest
 }
 
 static int32_t keep_empty(uint8_t *record, uint8_t kind) {
-    memset(record, 0, RECORD);
+    memcpy(record, no_card, RECORD);
     record[KIND] = kind;
-    record[PAGE] = 8;
     return 0;
 }
 

@@ -10,13 +10,18 @@
  *   - the slices of one call do not overlap, and nothing else changes them while the call runs.
  *
  * The record, CARD_READER_RECORD bytes:
- *   0   the kind of the card that is in, 0 for none
- *   1   active: 0 or 1
- *   2   selected type, 0 for none
- *   3   reader page: 8, 16, 32, 64 or 128
- *   4   open: 0 or 1
- *   5.. the rest, all 00h
- * A record starts as what card_reader_remove makes of it, whatever it held before.
+ *   0        the kind of the card that is in, 0 for none
+ *   1        active: 0 or 1
+ *   2        selected type, 0 for none
+ *   3        reader page: 8, 16, 32, 64 or 128
+ *   4        open: 0 or 1
+ *   5        protocol number of the slot's parameter set: 0 for T=0, 1 for T=1
+ *   6 to 12  the set's bytes, as SetParameters has them from its byte 10 on: T=1 has seven; T=0 has five, and bytes 11
+ *            and 12 are 00h
+ *   13..     the rest, all 00h
+ * The set is one that SetParameters takes; with no card in, it is the default, T=0 with 11 00 00 0A 00.
+ * A record starts as what card_reader_remove makes of it, whatever it held before. Zeros with a page of 8 are no empty
+ * record: a set of zeros is none that SetParameters takes, and a message on them is turned down, CARD_READER_E_RECORD.
  *
  * A call that is turned down returns one of the CARD_READER_E_ numbers, and record, image and answer keep every byte.
  */
@@ -57,7 +62,8 @@ extern "C" {
  * 07h, or an SLE4428 whose protection bit for 3FDh is 0. With no card in the slot the image is not looked at. */
 #define CARD_READER_E_IMAGE (-3)
 /* The record has another length than CARD_READER_RECORD, a byte that may only be 0 or 1 is neither, a byte of the rest
- * is not 00h, or what it says cannot be so (a page of no reader, a type that is not the card's, and the like). */
+ * is not 00h, or what it says cannot be so (a page of no reader, a type that is not the card's, a parameter set that
+ * SetParameters would not take, one that is not the default with no card in, and the like). */
 #define CARD_READER_E_RECORD (-4)
 /* A card is in already. */
 #define CARD_READER_E_OCCUPIED (-5)
@@ -67,11 +73,13 @@ extern "C" {
  *   image    the card's memory; afterwards what the card holds
  *   message  the whole message, header and data
  *   answer   afterwards the answer (CCID Bulk-IN) from its first byte on; bytes past the answer keep their values
+ * Types: 62h (power on) and 6Fh (transfer), answered by 80h; 63h (power off) and 65h (slot status), by 81h; 61h, 6Ch and
+ * 6Dh (set, get and reset parameters), by 82h. Any other is answered by 81h, as failed.
  * Returns the answer's length, 10 to CARD_READER_LONGEST, or, tested in this order, -1, -2, -3 or -4. */
 int32_t card_reader_message(uint8_t *record, size_t record_length, uint8_t *image, size_t image_length,
                             const uint8_t *message, size_t message_length, uint8_t *answer, size_t answer_length);
 
-/* A card is put in: the record becomes that of the card, inactive, with no type, page 8, closed.
+/* A card is put in: the record becomes that of the card, inactive, with no type, page 8, closed, with the default set.
  *   record   the slot; afterwards the slot with the card
  *   kind     one of the kinds above
  *   image    the card's memory, which is only looked at

@@ -1,10 +1,10 @@
-/* A card in the reader, from C: an SLE4442 is put in, powered and selected, and gets a wrong code and the right one.
- * examples/c/build builds and runs it. */
+/* A card in the reader, from C: an SLE4442 is put in and powered, the slot's parameters are asked for and set, the type
+ * is selected, and the card gets a wrong code and the right one. examples/c/build builds and runs it. */
 #include "card_reader.h"
 
 #include <stdio.h>
 
-/* All that the reader knows: the slot and the card's memory. */
+/* All that the reader knows: the slot and the card's memory. The record needs no start but card_reader_remove. */
 static uint8_t record[CARD_READER_RECORD];
 static uint8_t image[264];
 
@@ -28,11 +28,14 @@ static void send(const char *what, const uint8_t *message, size_t length)
 
 int main(void)
 {
-    /* type, dwLength, bSlot, bSeq, three more bytes; then the pseudo-APDU */
+    /* type, dwLength, bSlot, bSeq, three more bytes; then the data: the pseudo-APDU, or a parameter set, whose protocol
+     * number is the first of the three */
     static const uint8_t power_on[] = {0x62, 0, 0, 0, 0, 0, 1, 0, 0, 0};
-    static const uint8_t select[] = {0x6F, 6, 0, 0, 0, 0, 2, 0, 0, 0, 0xFF, 0xA4, 0, 0, 1, 0x06};
-    static const uint8_t wrong[] = {0x6F, 8, 0, 0, 0, 0, 3, 0, 0, 0, 0xFF, 0x20, 0, 0, 3, 0x01, 0x02, 0x03};
-    static const uint8_t right[] = {0x6F, 8, 0, 0, 0, 0, 4, 0, 0, 0, 0xFF, 0x20, 0, 0, 3, 0x11, 0x22, 0x33};
+    static const uint8_t get[] = {0x6C, 0, 0, 0, 0, 0, 2, 0, 0, 0};
+    static const uint8_t set[] = {0x61, 7, 0, 0, 0, 0, 3, 1, 0, 0, 0x11, 0x10, 0x00, 0x4D, 0x00, 0x20, 0x00};
+    static const uint8_t select[] = {0x6F, 6, 0, 0, 0, 0, 4, 0, 0, 0, 0xFF, 0xA4, 0, 0, 1, 0x06};
+    static const uint8_t wrong[] = {0x6F, 8, 0, 0, 0, 0, 5, 0, 0, 0, 0xFF, 0x20, 0, 0, 3, 0x01, 0x02, 0x03};
+    static const uint8_t right[] = {0x6F, 8, 0, 0, 0, 0, 6, 0, 0, 0, 0xFF, 0x20, 0, 0, 3, 0x11, 0x22, 0x33};
     static const uint8_t start[] = {0xA2, 0x13, 0x10, 0x91};
     size_t i;
 
@@ -48,10 +51,12 @@ int main(void)
     printf("insert       %d\n", (int)card_reader_insert(record, sizeof record, CARD_READER_SLE4442, image, sizeof image));
     printf("insert again %d\n", (int)card_reader_insert(record, sizeof record, CARD_READER_SLE4442, image, sizeof image));
     send("power on", power_on, sizeof power_on);
+    send("parameters", get, sizeof get);
+    send("set T=1", set, sizeof set);
     send("select", select, sizeof select);
     send("wrong code", wrong, sizeof wrong);
     send("right code", right, sizeof right);
     send("cut message", right, 9);
-    show("record", record, 5);
+    show("record", record, 13);
     return 0;
 }

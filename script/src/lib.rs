@@ -2,6 +2,7 @@
 //! and answers in words. docs/SCRIPTS.md has the language.
 
 pub mod cards;
+pub mod parameters;
 pub mod parse;
 pub mod talk;
 pub mod tell;

@@ -34,6 +34,8 @@ pub enum Expected {
     Error(u8),
     /// The card state that the answer tells: 0 active, 1 inactive, 2 none.
     State(u8),
+    /// The parameter set that the answer tells: its protocol number and its bytes.
+    Set(u8, Vec<u8>),
     Answer(Vec<u8>),
     Refused(u8),
     Done,
@@ -128,6 +130,7 @@ impl Parser {
                 no_more(rest)?;
                 self.message(0x65, &[])?
             }
+            "parameters" => self.parameters(rest)?,
             "select" => {
                 let own = match (rest.is_empty(), self.own_type) {
                     (false, _) => one_byte(rest, "select")?,
@@ -155,10 +158,30 @@ impl Parser {
         Ok(Some(record))
     }
 
+    /// The message of a `parameters` line. A set may have any number of bytes, as what `send` takes.
+    fn parameters(&mut self, words: &[&str]) -> Result<Record, String> {
+        match words {
+            [] => self.message(0x6c, &[]),
+            ["reset", rest @ ..] => {
+                no_more(rest)?;
+                self.message(0x6d, &[])
+            }
+            ["t0", set @ ..] => self.message_of(0x61, 0x00, &all_bytes(set)?),
+            ["t1", set @ ..] => self.message_of(0x61, 0x01, &all_bytes(set)?),
+            _ => Err("it is 'parameters' alone, or with 'reset', 't0 HEX' or 't1 HEX'".to_string()),
+        }
+    }
+
+    /// A message whose bytes 7 to 9 are 00h.
     fn message(&mut self, kind: u8, data: &[u8]) -> Result<Record, String> {
+        self.message_of(kind, 0x00, data)
+    }
+
+    /// A message with this byte 7. Its dwLength is the number of its data.
+    fn message_of(&mut self, kind: u8, byte_7: u8, data: &[u8]) -> Result<Record, String> {
         let mut message = vec![kind];
         message.extend_from_slice(&(data.len() as u32).to_le_bytes());
-        message.extend_from_slice(&[self.slot, self.seq, 0, 0, 0]);
+        message.extend_from_slice(&[self.slot, self.seq, byte_7, 0, 0]);
         message.extend_from_slice(data);
         self.slot = 0;
         self.seq = self.seq.wrapping_add(1);
@@ -281,6 +304,8 @@ fn expected(words: &[&str], source: &str) -> Result<Expected, String> {
             Ok(number @ 1..=5) => Ok(Expected::Refused(number)),
             _ => Err(format!("'{}' is no number from 1 to 5", number)),
         },
+        ["t0", set @ ..] => Ok(Expected::Set(0x00, some_bytes(set)?)),
+        ["t1", set @ ..] => Ok(Expected::Set(0x01, some_bytes(set)?)),
         ["answer", rest @ ..] => Ok(Expected::Answer(all_bytes(rest)?)),
         ["line", ..] => {
             let text = source.strip_prefix("expect").unwrap_or("").trim_start().strip_prefix("line").unwrap_or("");

@@ -114,6 +114,12 @@ impl Heard {
         self.answer().filter(|answer| answer[7] & 0x40 == 0).map(|answer| answer[10..].to_vec())
     }
 
+    /// Whether the answer is one of parameters that did not fail, with this protocol number and set.
+    fn has_set(&self, protocol: u8, set: &[u8]) -> bool {
+        let told = self.answer().map(|answer| (answer[0], answer[9]));
+        told == Some((0x82, protocol)) && self.data().as_deref() == Some(set)
+    }
+
     pub fn meets(&self, expected: &Expected) -> bool {
         match expected {
             Expected::Data(bytes) => self.data().as_ref() == Some(bytes),
@@ -121,6 +127,7 @@ impl Heard {
             Expected::Nothing => self.data() == Some(Vec::new()),
             Expected::Error(code) => self.answer().map_or(false, |answer| answer[7] & 0x40 != 0 && answer[8] == *code),
             Expected::State(state) => self.answer().map_or(false, |answer| answer[7] & 0x3f == *state),
+            Expected::Set(protocol, set) => self.has_set(*protocol, set),
             Expected::Answer(bytes) => self.answer().as_ref() == Some(bytes),
             Expected::Refused(number) => {
                 self.line == format!("msg {}", number) || self.line == format!("in {}", number)
@@ -140,6 +147,9 @@ impl Heard {
             Record::Loose(bytes) => format!("these bytes, and the end of the input: {}", tell::row(bytes)),
         };
         let mut parts = vec![("sent", sent)];
+        if let Record::Message(message) = record {
+            parts.extend(tell::sent_set(message).map(|set| ("set", set)));
+        }
         match (self.answer(), self.number()) {
             (Some(answer), _) => parts.extend(tell::answer(&self.message, &answer)),
             (None, Some(0)) if self.line == "in 0" => parts.push(("line", "in 0, the card is in".to_string())),

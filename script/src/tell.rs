@@ -1,5 +1,7 @@
 //! Messages and answers taken apart, in words.
 
+use crate::parameters;
+
 /// Bytes as a reader of the paper writes them; long rows are cut.
 pub fn row(bytes: &[u8]) -> String {
     const SHOWN: usize = 24;
@@ -17,9 +19,12 @@ pub fn message(message: &[u8]) -> String {
         return format!("a message of only {} bytes: {}", message.len(), row(message));
     }
     let name = match message[0] {
+        0x61 => "set parameters",
         0x62 => "power on",
         0x63 => "power off",
         0x65 => "slot status",
+        0x6c => "get parameters",
+        0x6d => "reset parameters",
         0x6f => "transfer",
         _ => "an unsupported type",
     };
@@ -28,18 +33,35 @@ pub fn message(message: &[u8]) -> String {
     if said != message.len() - 10 {
         text.push_str(&format!(", dwLength {:08X}h where {} bytes came", said, message.len() - 10));
     }
-    if message[7..10] != [0, 0, 0] {
-        text.push_str(&format!(", bytes 7 to 9 {}", row(&message[7..10])));
+    // Byte 7 of a 61h is told with the set.
+    let from = if message[0] == 0x61 { 8 } else { 7 };
+    if message[from..10].iter().any(|&byte| byte != 0) {
+        text.push_str(&format!(", bytes {} to 9 {}", from, row(&message[from..10])));
     }
-    if message[0] == 0x6f {
-        text.push_str(&format!(", {}", command(&message[10..])));
+    match message[0] {
+        0x61 => text.push_str(&format!(", protocol number {:02X}, {}", message[7], counted(&message[10..]))),
+        0x6f => text.push_str(&format!(", {}", command(&message[10..]))),
+        _ => {}
     }
     text
 }
 
+/// The parameter set that a 61h brings, field by field.
+pub fn sent_set(message: &[u8]) -> Option<String> {
+    if message.len() < 10 || message[0] != 0x61 {
+        return None;
+    }
+    Some(parameters::told(message[7], &message[10..]))
+}
+
+/// Data bytes, and how many they are.
+fn counted(data: &[u8]) -> String {
+    format!("{} data bytes {}", data.len(), row(data)).trim_end().to_string()
+}
+
 fn command(apdu: &[u8]) -> String {
     if apdu.len() < 5 {
-        return format!("{} data bytes {}", apdu.len(), row(apdu));
+        return counted(apdu);
     }
     let (place, p3, data) = (u16::from_be_bytes([apdu[2], apdu[3]]), apdu[4], &apdu[5..]);
     if apdu[0] != 0xff {
@@ -84,34 +106,15 @@ pub fn answer(message: &[u8], answer: &[u8]) -> Vec<(&'static str, String)> {
     if answer.len() < 10 {
         return vec![("answer", format!("only {} bytes: {}", answer.len(), row(answer)))];
     }
-    let kind = match answer[0] {
-        0x80 => "data block",
-        0x81 => "slot status",
-        _ => "no answer type of the paper",
-    };
-    let said = u32::from_le_bytes([answer[1], answer[2], answer[3], answer[4]]) as usize;
-    let mut first = format!("{:02X} {}, bSlot {:02X}, bSeq {:02X}", answer[0], kind, answer[5], answer[6]);
-    if said != answer.len() - 10 {
-        first.push_str(&format!(", dwLength {} where {} bytes came", said, answer.len() - 10));
-    }
-    if answer[0] == 0x81 {
-        first.push_str(if answer[9] == 0 { ", clock running" } else { ", clock stopped" });
-    }
-    let (status, error) = (answer[7], answer[8]);
-    let state = match status & 0x3f {
-        0 => "card active",
-        1 => "card inactive",
-        2 => "no card, or another slot",
-        _ => "no state of the paper",
-    };
-    let failed = status & 0x40 != 0;
-    let outcome = if failed { "failed" } else { "success" };
-    let mut parts = vec![
-        ("answer", first),
-        ("status", format!("{:02X} {}, {}, error {:02X} {}", status, outcome, state, error, error_name(failed, error))),
-    ];
+    let mut parts = vec![("answer", told_header(answer)), ("status", told_status(answer))];
     let (apdu, data) = (message.get(10..).unwrap_or_default(), &answer[10..]);
-    if message.first() == Some(&0x6f) && !failed && data.len() >= 2 {
+    let failed = has_failed(answer);
+    if answer[0] == 0x82 && !failed {
+        if !data.is_empty() {
+            parts.push(("data", row(data)));
+        }
+        parts.push(("set", parameters::told(answer[9], data)));
+    } else if message.first() == Some(&0x6f) && !failed && data.len() >= 2 {
         let (data, word) = data.split_at(data.len() - 2);
         if !data.is_empty() {
             parts.push(("data", told_data(apdu, data)));
@@ -124,13 +127,53 @@ pub fn answer(message: &[u8], answer: &[u8]) -> Vec<(&'static str, String)> {
     parts
 }
 
-fn error_name(failed: bool, error: u8) -> &'static str {
-    match (failed, error) {
+/// The header of an answer but for status and error.
+fn told_header(answer: &[u8]) -> String {
+    let kind = match answer[0] {
+        0x80 => "data block",
+        0x81 => "slot status",
+        0x82 => "parameters",
+        _ => "no answer type of the paper",
+    };
+    let said = u32::from_le_bytes([answer[1], answer[2], answer[3], answer[4]]) as usize;
+    let mut text = format!("{:02X} {}, bSlot {:02X}, bSeq {:02X}", answer[0], kind, answer[5], answer[6]);
+    if said != answer.len() - 10 {
+        text.push_str(&format!(", dwLength {} where {} bytes came", said, answer.len() - 10));
+    }
+    match answer[0] {
+        0x81 => text.push_str(if answer[9] == 0 { ", clock running" } else { ", clock stopped" }),
+        0x82 => text.push_str(&format!(", protocol number {:02X}", answer[9])),
+        _ => {}
+    }
+    text
+}
+
+fn has_failed(answer: &[u8]) -> bool {
+    answer[7] & 0x40 != 0
+}
+
+/// bStatus and bError.
+fn told_status(answer: &[u8]) -> String {
+    let (status, error) = (answer[7], answer[8]);
+    let state = match status & 0x3f {
+        0 => "card active",
+        1 => "card inactive",
+        2 => "no card, or another slot",
+        _ => "no state of the paper",
+    };
+    let outcome = if has_failed(answer) { "failed" } else { "success" };
+    format!("{:02X} {}, {}, error {:02X} {}", status, outcome, state, error, error_name(answer))
+}
+
+/// A bError in words; some mean other things in an answer of parameters.
+fn error_name(answer: &[u8]) -> &'static str {
+    match (has_failed(answer), answer[8]) {
         (false, 0x00) => "none",
         (false, _) => "which a success does not have",
         (true, 0x00) => "the message type is not supported",
         (true, 0x01) => "dwLength is wrong",
         (true, 0x05) => "there is no such slot",
+        (true, error) if answer[0] == 0x82 => parameters::error(error).unwrap_or("no error of the paper"),
         (true, 0x07) => "bPowerSelect is not supported",
         (true, 0x08) => "wLevelParameter is not 0",
         (true, 0xfe) => "the card is mute: there is none, or it is not active",

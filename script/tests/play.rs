@@ -57,6 +57,26 @@ fn a_script_is_told() {
 }
 
 #[test]
+fn a_parameter_set_is_told() {
+    let room = Room::new("set");
+    room.put("set.script", "parameters t0 1100000A00\nexpect t0 1100000A00\nexpect t1 1100000A00\n");
+    let (code, out, _) = room.play("echo msg 0 820500000000000100001100000a00", &["set.script"]);
+    assert_eq!(code, Some(1));
+    let set = "T=0: F 372 (FI 1), D 1 (DI 1), direct convention, extra guard time 0 etu, WI 10, clock stop not allowed";
+    for line in [
+        "        sent    61 set parameters, bSlot 00, bSeq 00, protocol number 00, 5 data bytes 11 00 00 0A 00",
+        &format!("        set     {}", set),
+        "        answer  82 parameters, bSlot 00, bSeq 00, protocol number 00",
+        "        data    11 00 00 0A 00",
+        "   2  expect t0 1100000A00: so it is",
+        "   3  expect t1 1100000A00: IT IS NOT SO",
+    ] {
+        assert!(out.lines().any(|told| told == line), "no line '{}' in {}", line, out);
+    }
+    assert_eq!(out.matches(set).count(), 2);
+}
+
+#[test]
 fn records_bytes_and_lines() {
     let room = Room::new("written");
     assert_eq!(room.play("false", &["--records", "out.script"]).1, "43 4F 00 00\n");

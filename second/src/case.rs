@@ -1,6 +1,7 @@
 //! A case of the trial program: a raw slot record, an answer buffer, a message and an image, and
 //! the line that shows all of them after the call.
 
+use crate::parameters::Parameters;
 use crate::reader::{self, Slot};
 use crate::step::hex;
 
@@ -10,8 +11,38 @@ pub const LONGEST_BUFFER: usize = 600;
 pub const LONGEST_MESSAGE: usize = 600;
 pub const LONGEST_IMAGE: usize = 32_768;
 
-/// A raw slot record: kind, active, selected type, reader page, open; the rest is 00h.
+/// A raw slot record: kind, active, selected type, reader page, open, protocol number, the bytes of
+/// the parameter set; the rest is 00h.
 pub const RECORD: usize = 32;
+/// Where the protocol number is, the set's bytes and the rest.
+pub const PROTOCOL: usize = 5;
+pub const SET: usize = 6;
+pub const REST: usize = 13;
+
+/// The raw record of a slot: the two bytes that a T=0 set lacks are 00h.
+pub fn raw(slot: &Slot) -> [u8; RECORD] {
+    let mut record = [0; RECORD];
+    record[..PROTOCOL].copy_from_slice(&[slot.kind, slot.active.into(), slot.selected, slot.page, slot.open.into()]);
+    record[PROTOCOL] = slot.parameters.protocol;
+    for (place, &byte) in record[SET..REST].iter_mut().zip(&slot.parameters.bytes) {
+        *place = byte;
+    }
+    record
+}
+
+/// The slot that a raw record tells of, whatever stands in the bytes that no slot has.
+pub fn slot_of(record: &[u8; RECORD]) -> Slot {
+    let protocol = record[PROTOCOL];
+    let end = if protocol == 0 { SET + 5 } else { REST };
+    Slot {
+        kind: record[0],
+        active: record[1] != 0,
+        selected: record[2],
+        page: record[3],
+        open: record[4] != 0,
+        parameters: Parameters { protocol, bytes: record[SET..end].to_vec() },
+    }
+}
 
 #[derive(Clone)]
 pub struct Case {
@@ -55,17 +86,15 @@ impl Case {
     }
 }
 
-/// One message over a raw slot record. The numbers keep their order 1, 2, 3, 4: what makes a raw
-/// record unsound beyond the rules of the slot is looked at where nothing before 4 holds.
+/// One message over a raw slot record. The numbers keep their order 1, 2, 3, 4: a record that is not
+/// that of the slot it tells of is as one that is not sound.
 fn message(record: &mut [u8; RECORD], image: &mut [u8], message: &[u8], answer: &mut [u8]) -> Result<usize, u8> {
-    let mut slot =
-        Slot { kind: record[0], active: record[1] != 0, selected: record[2], page: record[3], open: record[4] != 0 };
-    let proper = record[1] <= 1 && record[4] <= 1 && record[5..].iter().all(|&byte| byte == 0);
-    if !proper {
+    let mut slot = slot_of(record);
+    if raw(&slot) != *record {
         // A page of 0 is never sound, so that the slot is turned down with 4 at the latest.
         slot.page = 0;
     }
     let length = reader::message(&mut slot, image, message, answer)?;
-    record[..5].copy_from_slice(&[slot.kind, slot.active.into(), slot.selected, slot.page, slot.open.into()]);
+    *record = raw(&slot);
     Ok(length)
 }

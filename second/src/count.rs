@@ -1,8 +1,12 @@
 //! Counts what random sessions and cases reached, and holds a run to what it has to reach: every
-//! bError, every status word, every command on every type, every refusal.
+//! bError, every status word, every command on every type, every fault of a parameter set, every
+//! refusal.
 
-use crate::case::Case;
-use crate::random::{CASE_ENDINGS, ENDINGS, RECORD_FAULTS};
+mod parameters;
+
+use crate::case::{slot_of, Case, REST};
+use crate::parameters::Parameters;
+use crate::random::{CASE_ENDINGS, ENDINGS, RECORD_FAULTS, SET_FAULTS};
 use crate::reader::{Chip, Slot, CHIPS};
 use std::collections::BTreeMap;
 
@@ -17,6 +21,7 @@ pub struct Before {
     page: u8,
     open: bool,
     counter: u8,
+    parameters: Parameters,
 }
 
 impl Before {
@@ -29,6 +34,7 @@ impl Before {
             page: slot.page,
             open: slot.open,
             counter: counter.unwrap_or(0),
+            parameters: slot.parameters.clone(),
         }
     }
 
@@ -39,8 +45,14 @@ impl Before {
             (_, true) => "active",
         }
     }
+
+    /// Whether the set is another than the default.
+    pub fn has_other_set(&self) -> bool {
+        self.parameters != Parameters::default()
+    }
 }
 
+const SUPPORTED: [&str; 7] = ["61h", "62h", "63h", "65h", "6Ch", "6Dh", "6Fh"];
 const INS: [u8; 9] = [0xa4, 0x01, 0xb0, 0xb1, 0xb2, 0xd0, 0xd1, 0x20, 0xd2];
 const TYPES: [u8; 4] = [0x01, 0x02, 0x05, 0x06];
 
@@ -97,6 +109,7 @@ impl Count {
                 0x01 if said == 0xffff_ffff => "dwLength FFFFFFFFh".to_string(),
                 0x01 if said < came => "dwLength too small".to_string(),
                 0x01 if said > came => "dwLength too large".to_string(),
+                0x01 if kind == 0x61 => format!("61h of {} bytes", came),
                 0x01 if kind != 0x6f => format!("data for {:02X}h", kind),
                 0x01 if came == 262 => "262 data bytes".to_string(),
                 0x01 => "more data bytes".to_string(),
@@ -106,8 +119,10 @@ impl Count {
                 _ => format!("{:02X}h, {}", kind, before.state()),
             };
             self.add(format!("bError {:02X}h: {}", error, why));
+            self.parameters(before, message, &answer);
             return;
         }
+        self.parameters(before, message, &answer);
         if kind != 0x6f {
             self.add(format!("{:02X}h, {}: success", kind, before.state()));
             if kind == 0x62 {
@@ -180,13 +195,8 @@ impl Count {
         let number = line.as_bytes()[0] - b'0';
         if number == 0 {
             self.add(format!("buffer of {} bytes", case.buffer));
-            let slot = Slot {
-                kind: case.record[0],
-                active: case.record[1] == 1,
-                selected: case.record[2],
-                page: case.record[3],
-                open: case.record[4] == 1,
-            };
+            let slot = slot_of(&case.record);
+            self.values_of_set("sound", &slot.parameters);
             let mut parts = line.split(' ');
             let length = parts.nth(1).and_then(|length| length.parse().ok()).unwrap_or(0);
             let answer = parts.nth(1).unwrap_or("");
@@ -200,7 +210,12 @@ impl Count {
         match number {
             1 if alone => self.add(format!("1: buffer of {} bytes", case.buffer)),
             2 if alone => self.add(format!("2: message of {} bytes", case.message.len())),
-            3 | 4 if alone => self.add(format!("{}: {}", number, why)),
+            3 | 4 if alone => {
+                self.add(format!("{}: {}", number, why));
+                if SET_FAULTS.iter().any(|fault| fault.name == why) {
+                    self.add(format!("4: an unsound set, {:02X}h", case.message[0]));
+                }
+            }
             _ => {
                 for later in number + 1..5 {
                     if faults[usize::from(later)] {
@@ -241,7 +256,7 @@ fn answers() -> Vec<String> {
     ] {
         goal(format!("bError {}", what));
     }
-    for kind in ["62h", "63h", "65h", "6Fh"] {
+    for kind in SUPPORTED {
         goal(format!("bError 05h: {}, active", kind));
     }
     for state in ["inactive", "active"] {
@@ -312,6 +327,7 @@ fn answers() -> Vec<String> {
     ] {
         goal(what.to_string());
     }
+    goals.extend(parameters::answers());
     goals
 }
 
@@ -338,6 +354,7 @@ pub fn session_goals() -> Vec<String> {
     ] {
         goals.push(why.to_string());
     }
+    goals.extend(parameters::in_sessions());
     goals.push("an equal message again".to_string());
     for length in 0..10 {
         goals.push(format!("msg 2: {} bytes", length));
@@ -368,9 +385,10 @@ pub fn trial_goals() -> Vec<String> {
             goals.push(format!("4: {}", why));
         }
     }
-    for k in 5..32 {
+    for k in REST..32 {
         goals.push(format!("4: rest byte {} not 00h", k));
     }
+    goals.extend(parameters::in_cases());
     goals.push("4: several faults".to_string());
     for (first, second) in [(1, 2), (1, 3), (1, 4), (2, 3), (2, 4), (3, 4)] {
         goals.push(format!("{} before {}", first, second));

@@ -3,6 +3,7 @@
 
 pub mod case;
 pub mod count;
+pub mod parameters;
 pub mod program;
 pub mod random;
 pub mod reader;

@@ -4,9 +4,11 @@ mod cards;
 mod cases;
 mod commands;
 mod messages;
+mod parameters;
 mod sessions;
 
 pub use cases::{cases, Part, CASE_ENDINGS, RECORD_FAULTS};
+pub use parameters::{DI, FI, SET_FAULTS};
 pub use sessions::{sessions, ENDINGS};
 
 use crate::reader::{Chip, CHIPS};
@@ -87,7 +89,7 @@ struct Maker {
 /// How often a kind is taken: the code cards most, the largest images least.
 #[rustfmt::skip]
 const KINDS: [(usize, u8); 11] =
-    [(30, 30), (26, 20), (6, 1), (6, 2), (6, 3), (6, 4), (6, 5), (5, 6), (4, 7), (3, 8), (2, 9)];
+    [(30, 30), (26, 20), (6, 1), (6, 2), (6, 3), (6, 4), (6, 5), (6, 6), (6, 7), (3, 8), (2, 9)];
 
 impl Maker {
     fn new(rng: Rng) -> Maker {

@@ -3,18 +3,25 @@
 //! carried out, or it is turned down with the number of the table "Turned down without an answer"
 //! and leaves every byte as it was.
 
+use crate::parameters::Parameters;
 use std::ops::{Range, RangeInclusive};
 
 /// The answer buffer must be at least this long.
 pub const ANSWER_BUFFER: usize = 271;
 const HEADER: usize = 10;
 
+const SET_PARAMETERS: u8 = 0x61;
 const POWER_ON: u8 = 0x62;
 const POWER_OFF: u8 = 0x63;
 const SLOT_STATUS: u8 = 0x65;
+const GET_PARAMETERS: u8 = 0x6c;
+const RESET_PARAMETERS: u8 = 0x6d;
 const TRANSFER: u8 = 0x6f;
+const SUPPORTED: [u8; 7] =
+    [SET_PARAMETERS, POWER_ON, POWER_OFF, SLOT_STATUS, GET_PARAMETERS, RESET_PARAMETERS, TRANSFER];
 const DATA_BLOCK: u8 = 0x80;
 const SLOT_STATUS_ANSWER: u8 = 0x81;
+const PARAMETERS: u8 = 0x82;
 
 /// A row of "Cards we model", and where the parts of the image are.
 pub struct Chip {
@@ -98,12 +105,13 @@ pub struct Slot {
     pub selected: u8,
     pub page: u8,
     pub open: bool,
+    pub parameters: Parameters,
 }
 
 impl Slot {
     /// The empty sound slot.
     pub fn empty() -> Slot {
-        Slot { kind: 0, active: false, selected: 0, page: 8, open: false }
+        Slot { kind: 0, active: false, selected: 0, page: 8, open: false, parameters: Parameters::default() }
     }
 
     /// The image is the chip's own where there is a card.
@@ -114,8 +122,11 @@ impl Slot {
         if !self.active && (self.selected != 0 || self.open) {
             return false;
         }
+        if self.parameters.fault().is_some() {
+            return false;
+        }
         let chip = match chip {
-            None => return !self.active && self.page == 8,
+            None => return !self.active && self.page == 8 && self.parameters == Parameters::default(),
             Some(chip) => chip,
         };
         if self.selected != 0 && self.selected != chip.select {
@@ -179,6 +190,9 @@ pub fn message(slot: &mut Slot, image: &mut [u8], message: &[u8], answer: &mut [
     };
     let (answer_type, last) = match message[0] {
         POWER_ON | TRANSFER => (DATA_BLOCK, 0x00),
+        SET_PARAMETERS | GET_PARAMETERS | RESET_PARAMETERS => {
+            (PARAMETERS, if failed == 0 { slot.parameters.protocol } else { 0x00 })
+        }
         _ => (SLOT_STATUS_ANSWER, if state == 0 { 0x00 } else { 0x01 }),
     };
     header[0] = answer_type;
@@ -190,12 +204,16 @@ pub fn message(slot: &mut Slot, image: &mut [u8], message: &[u8], answer: &mut [
 /// The faults of a message in the paper's order, each with its bError; then the message itself.
 fn carry_out(card: Option<Card>, message: &[u8], data: &mut Data) -> Result<(), u8> {
     let kind = message[0];
-    if ![POWER_ON, POWER_OFF, SLOT_STATUS, TRANSFER].contains(&kind) {
+    if !SUPPORTED.contains(&kind) {
         return Err(0x00);
     }
     let length = u32::from_le_bytes([message[1], message[2], message[3], message[4]]) as u64;
-    let most = if kind == TRANSFER { 261 } else { 0 };
-    if length != (message.len() - HEADER) as u64 || length > most {
+    let allowed = match kind {
+        TRANSFER => length <= 261,
+        SET_PARAMETERS => length == 5 || length == 7,
+        _ => length == 0,
+    };
+    if length != (message.len() - HEADER) as u64 || !allowed {
         return Err(0x01);
     }
     if message[5] != 0 {
@@ -207,12 +225,19 @@ fn carry_out(card: Option<Card>, message: &[u8], data: &mut Data) -> Result<(), 
     if kind == TRANSFER && message[8..10] != [0, 0] {
         return Err(0x08);
     }
+    let brought = Parameters { protocol: message[7], bytes: message[HEADER..].to_vec() };
+    if let (SET_PARAMETERS, Some(error)) = (kind, brought.fault()) {
+        return Err(error);
+    }
     let mut card = match card {
         Some(card) => card,
-        None if kind == POWER_ON || kind == TRANSFER => return Err(0xfe),
-        None => return Ok(()),
+        None if kind == POWER_OFF || kind == SLOT_STATUS => return Ok(()),
+        None => return Err(0xfe),
     };
     match kind {
+        SET_PARAMETERS => card.keep(brought, data),
+        RESET_PARAMETERS => card.keep(Parameters::default(), data),
+        GET_PARAMETERS => data.put(&card.slot.parameters.bytes),
         POWER_ON => card.power_on(data),
         POWER_OFF => card.power(false),
         TRANSFER if !card.slot.active => return Err(0xfe),
@@ -312,15 +337,22 @@ struct Card<'a> {
 }
 
 impl Card<'_> {
-    /// Both ways: no type, closed. The page size survives.
+    /// Both ways: no type, closed. The page size survives; the parameters survive power off alone.
     fn power(&mut self, active: bool) {
         self.slot.active = active;
         self.slot.selected = 0;
         self.slot.open = false;
     }
 
+    /// The set that is told is the one after the call.
+    fn keep(&mut self, parameters: Parameters, data: &mut Data) {
+        self.slot.parameters = parameters;
+        data.put(&self.slot.parameters.bytes);
+    }
+
     fn power_on(&mut self, data: &mut Data) {
         self.power(true);
+        self.slot.parameters = Parameters::default();
         if self.chip.has_code() {
             data.put(&[0x3b, 0x04]);
             data.put(&self.image[..4]);

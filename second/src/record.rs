@@ -65,9 +65,12 @@ pub fn told_message(message: &[u8]) -> String {
         return format!("only {} bytes", message.len());
     }
     let name = match message[0] {
+        0x61 => "61 set parameters",
         0x62 => "62 power on",
         0x63 => "63 power off",
         0x65 => "65 slot status",
+        0x6c => "6c get parameters",
+        0x6d => "6d reset parameters",
         0x6f => "6f transfer",
         _ => "of an unsupported type",
     };
@@ -78,6 +81,9 @@ pub fn told_message(message: &[u8]) -> String {
     }
     if message[7..10] != [0, 0, 0] {
         text.push_str(&format!(", bytes 7 to 9 {}", hex(&message[7..10])));
+    }
+    if message[0] == 0x61 && message.len() <= 20 {
+        text.push_str(&format!(": protocol {}, set {}", message[7], hex(&message[10..])));
     }
     if message[0] == 0x6f && message.len() >= 15 {
         let (apdu, name) = (&message[10..], ins_name(message[11]));

@@ -1,9 +1,9 @@
 //! Makes a session or a list of cases that two programs answer differently as short as it gets,
 //! and tells it.
 
-use crate::case::Case;
+use crate::case::{raw, Case, PROTOCOL, REST, SET};
 use crate::random;
-use crate::reader::Chip;
+use crate::reader::{Chip, Slot};
 use crate::record::{told_message, Record};
 use crate::step::hex;
 use std::time::{Duration, Instant};
@@ -194,9 +194,9 @@ impl Part for random::Part {
             None if record[0] == 0 => "no card",
             None => "no kind",
         };
-        let rest = if record[5..].iter().all(|&byte| byte == 0) { "00" } else { "not all 00" };
+        let rest = if record[REST..].iter().all(|&byte| byte == 0) { "00" } else { "not all 00" };
         format!(
-            "record: kind {} ({}), active {}, type {:02x}, page {}, open {}, rest {}\n\
+            "record: kind {} ({}), active {}, type {:02x}, page {}, open {}, protocol {}, set {}, rest {}\n\
              buffer: {} bytes of {:02x}\nmessage: {}\n         {}\nimage: {} bytes",
             record[0],
             kind,
@@ -204,6 +204,8 @@ impl Part for random::Part {
             record[2],
             record[3],
             record[4],
+            record[PROTOCOL],
+            hex(&record[SET..REST]),
             rest,
             case.buffer,
             case.fill,
@@ -229,6 +231,12 @@ impl Part for random::Part {
         let with = case.clone();
         case.message =
             smaller_message(&with.message, &mut |less| still(&Case { message: less.to_vec(), ..with.clone() }));
+        // The default set first: the other bytes are most often sound with it alone.
+        let mut with = case.clone();
+        with.record[PROTOCOL..REST].copy_from_slice(&raw(&Slot::empty())[PROTOCOL..REST]);
+        if still(&with) {
+            case = with;
+        }
         let with = case.clone();
         let mut record = with.record.to_vec();
         clear(&mut record, 1, 32, &mut |less| {

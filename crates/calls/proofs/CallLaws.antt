@@ -13,8 +13,8 @@ use Rattle.words.proofs.Lists.{over-none}
 use Rattle.slot.specs.declared.Slot.{Slot}
 use Rattle.sound.specs.Sound.{imageIsCard, sound}
 use Rattle.record.specs.declared.Reading.{Reading}
-use Rattle.record.specs.Raw.{kindOf, rawOf, slotOf}
-use Rattle.record.proofs.Records.{found-raw}
+use Rattle.record.specs.Raw.{kindOf, slotOf}
+use Rattle.record.proofs.Records.{Front, front-rest, found-front}
 use Rattle.frame.specs.declared.Refusal.{Refusal}
 use Rattle.frame.specs.declared.Verdict.{Verdict}
 use Rattle.frame.specs.declared.Reply.{Reply}
@@ -50,12 +50,11 @@ raw-kept r {o} {reply} g e h = record {
 
 -- ---- a message leaves the kind and the rest as they were read
 pub message-leaves : (r : List ℕ) (s t : Slot) (image m : List ℕ) → 10 ≤ length m → slotOf r ≡ Reading.Found s → t ≡ served s image m .slot
-    → (byte r 0 ≡ kindOf (t .holds)) × (drop 5 r ≡ replicate 27 0)
-unfolding rawOf
+    → (byte r 0 ≡ kindOf (t .holds)) × (drop 13 r ≡ replicate 19 0)
 message-leaves r s t image m w e h =
-    let p : r ≡ rawOf s = found-raw r s e in
+    let p : Front r s = found-front r s e in
     let q : t .holds ≡ s .holds = ap (λ (x : Slot). x .holds) h ∙ served-holds s image m w in
-    (ap (λ (l : List ℕ). byte l 0) p ∙ ap kindOf (sym q), ap (drop 5) p)
+    (p .kind ∙ ap kindOf (sym q), front-rest p)
 
 -- ---- whatever is read is sound or turned down
 pub record Read (r image : List ℕ) : Type 0 where

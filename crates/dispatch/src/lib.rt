@@ -1,4 +1,4 @@
-// A message that passed the tests goes to the handler of its type: those of `power`, 6Fh's and that of the unsupported types.
+// A message that passed the tests goes to the handler of its type: those of `power` and `params`, 6Fh's and that of the unsupported types.
 // Inner functions: they ask that the tests before them have passed. The rules are those of `frame`.
 
 use faults::Fault;
@@ -53,10 +53,13 @@ pub fn handle(slot: Slot, image: &mut [u8], msg: &[u8], answer: &mut [u8]) -> Re
 {
     let message_type = msg[0];
     match message_type {
+        0x61 => params::set_parameters(slot, msg, answer),
         0x62 => power::power_on(slot, image, msg, answer),
         0x63 => power::power_off(slot, msg, answer),
         0x65 => power::slot_status(slot, msg, answer),
+        0x6C => params::get_parameters(slot, msg, answer),
+        0x6D => params::reset_parameters(slot, msg, answer),
         0x6F => transfer(slot, image, msg, answer),
-        0x00..=0x61 | 0x64 | 0x66..=0x6E | 0x70..=0xFF => unsupported(slot, msg, answer),
+        0x00..=0x60 | 0x64 | 0x66..=0x6B | 0x6E | 0x70..=0xFF => unsupported(slot, msg, answer),
     }
 }

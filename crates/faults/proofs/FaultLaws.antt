@@ -10,7 +10,7 @@ use Rattle.words.specs.Choice.{_⇒_⁏_, _isnt_}
 use Rattle.words.proofs.Choices.{first, rest}
 use Rattle.slot.specs.declared.Slot.{Slot}
 use Rattle.faults.specs.declared.Fault.{Fault}
-use Rattle.faults.specs.Faults.{Request, dwLength, bSlot, supported, dataFits, headerFault, ready, isClear, faultOf}
+use Rattle.faults.specs.Faults.{Request, dwLength, bSlot, supported, dataFits, badField, ready, faultOf}
 
 module _ (r : Request) (s : Slot) (m : List ℕ) where
   -- ---- the chain from a fault on
@@ -18,7 +18,7 @@ module _ (r : Request) (s : Slot) (m : List ℕ) where
   from5 = not (ready r s) ⇒ Fault.Card ⁏ Fault.Clear
 
   abbrev from4 : Fault
-  from4 = not (isClear (headerFault r m)) ⇒ headerFault r m ⁏ from5
+  from4 = badField r m isnt 0 ⇒ Fault.Field (badField r m) ⁏ from5
 
   abbrev from3 : Fault
   from3 = bSlot m isnt 0 ⇒ Fault.OtherSlot ⁏ from4
@@ -60,8 +60,8 @@ module _ {r : Request} {s : Slot} {m : List ℕ} where
   pub free3 : FreeType r s m → bSlot m ≡ 0 → Free3 r s m
   free3 o e = record { left = o .left ∙ rest _ _ (ap not (eq-eqb _ _ e)) }
 
-  pub free4 : Free3 r s m → isClear (headerFault r m) ≡ true → Free4 r s m
-  free4 o e = record { left = o .left ∙ rest _ _ (ap not e) }
+  pub free4 : Free3 r s m → badField r m ≡ 0 → Free4 r s m
+  free4 o e = record { left = o .left ∙ rest _ _ (ap not (eq-eqb _ _ e)) }
 
   pub free5 : Free4 r s m → ready r s ≡ true → Fault.Clear ≡ faultOf r s m
   free5 o e = sym (o .left ∙ rest _ _ (ap not e))
@@ -76,8 +76,8 @@ module _ {r : Request} {s : Slot} {m : List ℕ} where
   pub fault3 : FreeType r s m → bSlot m ≢ 0 → Fault.OtherSlot ≡ faultOf r s m
   fault3 o e = sym (o .left ∙ first _ _ (ap not (ne-eqb _ _ e)))
 
-  pub fault4 : Free3 r s m → isClear (headerFault r m) ≡ false → headerFault r m ≡ faultOf r s m
-  fault4 o e = sym (o .left ∙ first _ _ (ap not e))
+  pub fault4 : Free3 r s m → badField r m ≢ 0 → Fault.Field (badField r m) ≡ faultOf r s m
+  fault4 o e = sym (o .left ∙ first _ _ (ap not (ne-eqb _ _ e)))
 
   pub fault5 : Free4 r s m → ready r s ≡ false → Fault.Card ≡ faultOf r s m
   fault5 o e = sym (o .left ∙ first _ _ (ap not e))

@@ -6,6 +6,7 @@ use borrow.Author.Tests.{ne-eqb}
 use Rattle.words.specs.Choice.{_⇒_⁏_}
 use Rattle.faults.specs.Faults.{Unsupported, requestOf}
 
-pub other-type : (b : ℕ) → b ≢ 0x62 → b ≢ 0x63 → b ≢ 0x65 → b ≢ 0x6F → requestOf b ≡ Unsupported
+pub other-type : (b : ℕ) → b ≢ 0x61 → b ≢ 0x62 → b ≢ 0x63 → b ≢ 0x65 → b ≢ 0x6C → b ≢ 0x6D → b ≢ 0x6F → requestOf b ≡ Unsupported
 unfolding requestOf _⇒_⁏_
-other-type b on off status transfer = simp (ne-eqb b 0x62 on, ne-eqb b 0x63 off, ne-eqb b 0x65 status, ne-eqb b 0x6F transfer)
+other-type b set on off status get reset transfer =
+    simp (ne-eqb b 0x61 set, ne-eqb b 0x62 on, ne-eqb b 0x63 off, ne-eqb b 0x65 status, ne-eqb b 0x6C get, ne-eqb b 0x6D reset, ne-eqb b 0x6F transfer)

@@ -46,13 +46,13 @@ pub gives-sealed : (r : Request) (m : List ℕ) (f : Fault) (d : Deed) (was : Li
 unfolding answer
 gives-sealed r m f d was {n} {rep} {left} {mid} {holds} e h p q z =
     let st : ℕ = cardState (bSlot m) (d .slot) in
-    let hd : ℕ → List ℕ = λ k. header (answerType r) k (bSlot m) (bSeq m) (bStatus f st) (bError f) (byte9 (answerType r) st) in
+    let hd : ℕ → List ℕ = λ k. header (answerType r) k (bSlot m) (bSeq m) (bStatus f st) (bError f) (byte9 (answerType r) f st (d .slot)) in
     record {
       number = ap number (z .verdict);
       len = ap answerLength (z .verdict) ∙ omega (
         arith,
         length-append (hd (length (d .said))) (d .said),
-        length-header (answerType r) (length (d .said)) (bSlot m) (bSeq m) (bStatus f st) (bError f) (byte9 (answerType r) st),
+        length-header (answerType r) (length (d .said)) (bSlot m) (bSeq m) (bStatus f st) (bError f) (byte9 (answerType r) f st (d .slot)),
         e,
       );
       slot = z .slot;
@@ -62,7 +62,7 @@ gives-sealed r m f d was {n} {rep} {left} {mid} {holds} e h p q z =
           ∙ ap (λ (k : ℕ). over (hd k) mid) e
           ∙ ap (over (hd (length (d .said)))) p
           ∙ over-head 10 (hd (length (d .said))) (d .said) was
-          (length-header (answerType r) (length (d .said)) (bSlot m) (bSeq m) (bStatus f st) (bError f) (byte9 (answerType r) st)) h;
+          (length-header (answerType r) (length (d .said)) (bSlot m) (bSeq m) (bStatus f st) (bError f) (byte9 (answerType r) f st (d .slot))) h;
     }
 
 -- there are no data
@@ -74,6 +74,10 @@ gives-plain r m f s image was h z =
 pub sealed-slot : {type : ℕ} {f : Fault} {n : ℕ} {s s′ : Slot} {m : List ℕ} {r : Reply} {was holds : List ℕ} → s ≡ s′ → Sealed type f n s m r was holds
     → Sealed type f n s′ m r was holds
 sealed-slot {type} {f} {n} {s} {s′} {m} {r} {was} {holds} e z = subst (λ (x : Slot). Sealed type f n x m r was holds) e z
+
+pub sealed-type : {type type′ : ℕ} {f : Fault} {n : ℕ} {s : Slot} {m : List ℕ} {r : Reply} {was holds : List ℕ} → type ≡ type′ → Sealed type f n s m r was holds
+    → Sealed type′ f n s m r was holds
+sealed-type {type} {type′} {f} {n} {s} {m} {r} {was} {holds} e z = subst (λ (x : ℕ). Sealed x f n s m r was holds) e z
 
 -- ---- a reply, with the fault that was found
 module _ (r : Request) (s : Slot) (image m : List ℕ) {f : Fault} (is : f ≡ faultOf r s m) where

@@ -12,18 +12,19 @@ use Rattle.chips.specs.declared.Known.{Known}
 use Rattle.chips.specs.declared.Known.the-variants.{Is, Unknown}
 use Rattle.chips.specs.declared.Facts.{Facts}
 use Rattle.chips.specs.Kinds.{facts, chipOf}
+use Rattle.sets.specs.Sets.{bytesOf, setOf}
 use Rattle.card.specs.Images.{isCard}
 use Rattle.slot.specs.declared.Slot.{Slot}
 use Rattle.slot.specs.declared.Holds.{Holds}
 use Rattle.slot.specs.declared.Holds.the-variants.{Empty, Card}
-use Rattle.slot.specs.Slots.{occupied, inserted, powered}
+use Rattle.slot.specs.Slots.{occupied, inserted, powered, setAs, defaulted}
 use Rattle.sound.specs.Sound.{imageIsCard, sound}
 use Rattle.orders.specs.Orders.{Deed, commanded}
 use Rattle.faults.specs.declared.Fault.{Fault}
 use Rattle.frame.specs.declared.Refusal.{Refusal}
 use Rattle.frame.specs.declared.Verdict.{Verdict}
 use Rattle.frame.specs.declared.Reply.{Reply}
-use Rattle.faults.specs.Faults.{Request, PowerOn, PowerOff, SlotStatus, Transfer, Unsupported, typeByte, apdu, bSlot, bSeq, requestOf, faultOf, isClear}
+use Rattle.faults.specs.Faults.{Request, SetParameters, PowerOn, PowerOff, SlotStatus, GetParameters, ResetParameters, Transfer, Unsupported, typeByte, apdu, bSlot, bSeq, requestOf, faultOf, isClear}
 use Rattle.frame.specs.Answers.{bError, cardState, bStatus, byte9, header, answer}
 
 -- "Turned down without an answer": the numbers of the table
@@ -53,12 +54,19 @@ reset f image = f .page isnt 0 ⇒ 0x3B ∷ 0x00 ∷ [] ⁏ 0x3B ∷ 0x04 ∷ ta
 abbrev pub idle : Slot → List ℕ → Deed
 idle s image = record { said = []; slot = s; image = image }
 
--- what a message without a fault does; 62h and 6Fh come here with a card alone
+-- 82h: the data are the bytes of the set after the call
+abbrev pub told : Slot → List ℕ → Deed
+told s image = record { said = bytesOf (s .set); slot = s; image = image }
+
+-- what a message without a fault does; 62h and 6Fh come here with a card alone. 02: the default returns "on reset, power on"
 unfoldable pub deed : Request → Holds → Slot → List ℕ → List ℕ → Deed
+deed SetParameters h s image m = told (setAs (setOf m) s) image
 deed PowerOn Empty s image m = idle s image
-deed PowerOn (Card chip) s image m = record { said = reset (facts chip) image; slot = powered true s; image = image }
+deed PowerOn (Card chip) s image m = record { said = reset (facts chip) image; slot = defaulted (powered true s); image = image }
 deed PowerOff h s image m = idle (powered false s) image
 deed SlotStatus h s image m = idle s image
+deed GetParameters h s image m = told s image
+deed ResetParameters h s image m = told (defaulted s) image
 deed Transfer Empty s image m = idle s image
 deed Transfer (Card chip) s image m = commanded (facts chip) s image (apdu m)
 deed Unsupported h s image m = idle s image
@@ -120,4 +128,4 @@ pub record Gives (o : Outcome) (r : Reply) (left was holds : List ℕ) : Type 0 
 pub record Sealed (type : ℕ) (f : Fault) (len : ℕ) (s : Slot) (m : List ℕ) (r : Reply) (was holds : List ℕ) : Type 0 where
   pub verdict : r .verdict ≡ Verdict.Answered (10 + len)
   pub slot : r .slot ≡ s
-  pub buffer : holds ≡ over (header type len (bSlot m) (bSeq m) (bStatus f (cardState (bSlot m) s)) (bError f) (byte9 type (cardState (bSlot m) s))) was
+  pub buffer : holds ≡ over (header type len (bSlot m) (bSeq m) (bStatus f (cardState (bSlot m) s)) (bError f) (byte9 type f (cardState (bSlot m) s) s)) was

@@ -8,7 +8,10 @@ use slot::Slot;
 ghost use mathlib.Core.Path.{_≡_};
 ghost use Prim.Native.Nat.{_≤_, _<_};
 ghost use lib.ListN.{length};
+ghost use Rattle.words.specs.Choice.{_⇒_⁏_};
 ghost use Rattle.words.specs.Bytes.{over};
+ghost use Rattle.sets.specs.Sets.{protocolOf};
+ghost use Rattle.faults.specs.Faults.{isClear};
 ghost use Rattle.frame.specs.Answers.{bError, cardState, bStatus, byte9, header};
 ghost use Rattle.frame.specs.Exchange.{numberOf, number, answerLength, Sealed};
 
@@ -80,8 +83,7 @@ fn error_of(fault: Fault) -> u8
         Fault::Unknown => 0x00,
         Fault::Length => 0x01,
         Fault::OtherSlot => 0x05,
-        Fault::Power => 0x07,
-        Fault::Level => 0x08,
+        Fault::Field(at) => at,
         Fault::Card => 0xFE,
     }
 }
@@ -113,12 +115,25 @@ fn status_of(fault: Fault, state: u8) -> u8
     state + 0x40
 }
 
+// The protocol number that 82h tells: that of the slot after the call, 0 where the message failed.
+fn protocol_of(fault: Fault, slot: Slot) -> u8
+    ensures { λ r. ⌜ r ≡ (isClear fault ⇒ protocolOf (slot .set) ⁏ 0) ⌝ }
+{
+    if is_clear(fault) {
+        return words::part(slot.set, 0);
+    }
+    0
+}
+
 // Byte 9.
-fn last_of(answer_type: u8, state: u8) -> u8
-    ensures { λ r. ⌜ r ≡ byte9 «answer_type» state ⌝ }
+fn last_of(answer_type: u8, fault: Fault, state: u8, slot: Slot) -> u8
+    ensures { λ r. ⌜ r ≡ byte9 «answer_type» fault state slot ⌝ }
 {
     if answer_type == 0x80 {
         return 0;
+    }
+    if answer_type == 0x82 {
+        return protocol_of(fault, slot);
     }
     if state == 0 {
         return 0;
@@ -174,7 +189,7 @@ pub fn seal(
         msg[6],
         status_of(fault, state),
         error_of(fault),
-        last_of(answer_type, state),
+        last_of(answer_type, fault, state, slot),
     );
     Reply {
         verdict: Verdict::Answered(10 + len),

@@ -19,7 +19,8 @@ use Rattle.chips.specs.Kinds.{facts, chipOf}
 use Rattle.lines.specs.Lines.{Puts}
 use Rattle.slot.specs.declared.Holds.{Holds}
 use Rattle.slot.specs.declared.Slot.{Slot}
-use Rattle.slot.specs.Slots.{occupied, ownType, slotted, inserted, removed, powered, selecting, paged, opened, closed}
+use Rattle.sets.specs.Sets.{defaultSet, setOf, faultAt, takes}
+use Rattle.slot.specs.Slots.{occupied, ownType, slotted, inserted, removed, powered, selecting, paged, opened, closed, setAs, defaulted}
 use Rattle.card.specs.Images.{isCard}
 use Rattle.sound.specs.Sound.{imageIsCard, sound}
 use Rattle.record.specs.declared.Reading.{Reading}
@@ -94,12 +95,26 @@ chips-facts-only chip r r′ = value-only
 pub card-is-card-only : (chip : Chip) (image : List ℕ) (r r′ : Bool) → r ≡ isCard (facts chip) image → r′ ≡ isCard (facts chip) image → r ≡ r′
 card-is-card-only chip image r r′ = value-only
 
+-- ---- sets
+pub sets-default-set-only : (r r′ : ℕ) → r ≡ defaultSet → r′ ≡ defaultSet → r ≡ r′
+sets-default-set-only r r′ = value-only
+
+pub sets-set-of-only : (m : List ℕ) (r r′ : ℕ) → r ≡ setOf m → r′ ≡ setOf m → r ≡ r′
+sets-set-of-only m r r′ = value-only
+
+pub sets-fault-at-only : (set n : ℕ) (r r′ : ℕ) → r ≡ faultAt set n → r′ ≡ faultAt set n → r ≡ r′
+sets-fault-at-only set n r r′ = value-only
+
+pub sets-is-taken-only : (set : ℕ) (r r′ : Bool) → r ≡ takes set → r′ ≡ takes set → r ≡ r′
+sets-is-taken-only set r r′ = value-only
+
 -- ---- slot
 pub slot-empty-only : (r r′ : Slot) → r ≡ removed → r′ ≡ removed → r ≡ r′
 slot-empty-only r r′ = value-only
 
-pub slot-of-only : (h : Holds) (on : Bool) (type page : ℕ) (o : Bool) (r r′ : Slot) → r ≡ slotted h on type page o → r′ ≡ slotted h on type page o → r ≡ r′
-slot-of-only h on type page o r r′ = value-only
+pub slot-of-only : (h : Holds) (on : Bool) (type page : ℕ) (o : Bool) (set : ℕ) (r r′ : Slot) → r ≡ slotted h on type page o set → r′ ≡ slotted h on type page o set
+    → r ≡ r′
+slot-of-only h on type page o set r r′ = value-only
 
 pub slot-insert-only : (chip : Chip) (r r′ : Slot) → r ≡ inserted chip → r′ ≡ inserted chip → r ≡ r′
 slot-insert-only chip r r′ = value-only
@@ -122,6 +137,12 @@ module _ (s : Slot) where
 
   pub slot-close-only : (r r′ : Slot) → r ≡ closed s → r′ ≡ closed s → r ≡ r′
   slot-close-only r r′ = value-only
+
+  pub slot-with-set-only : (set : ℕ) (r r′ : Slot) → r ≡ setAs set s → r′ ≡ setAs set s → r ≡ r′
+  slot-with-set-only set r r′ = value-only
+
+  pub slot-reset-set-only : (r r′ : Slot) → r ≡ defaulted s → r′ ≡ defaulted s → r ≡ r′
+  slot-reset-set-only r r′ = value-only
 
   pub slot-has-card-only : (r r′ : Bool) → r ≡ occupied (s .holds) → r′ ≡ occupied (s .holds) → r ≡ r′
   slot-has-card-only r r′ = value-only

@@ -43,6 +43,20 @@ slotBy-holds f s image b (Order.Protect at) = refl
 slotBy-holds f s image b Order.Present = either (λ (x : Slot). x .holds ≡ s .holds) _ (λ _. refl) (λ _. refl)
 slotBy-holds f s image b Order.Change = refl
 
+-- no command changes the parameters
+pub slotBy-set : (f : Facts) (s : Slot) (image b : List ℕ) (o : Order) → slotBy f s image b o .set ≡ s .set
+unfolding slotBy
+slotBy-set f s image b (Order.Refuse status) = refl
+slotBy-set f s image b Order.Select = refl
+slotBy-set f s image b (Order.Page p) = refl
+slotBy-set f s image b (Order.Read at n) = refl
+slotBy-set f s image b (Order.Counter n) = refl
+slotBy-set f s image b (Order.Bits at n) = refl
+slotBy-set f s image b (Order.Write at) = refl
+slotBy-set f s image b (Order.Protect at) = refl
+slotBy-set f s image b Order.Present = either (λ (x : Slot). x .set ≡ s .set) _ (λ _. refl) (λ _. refl)
+slotBy-set f s image b Order.Change = refl
+
 -- the codes 03h..07h give page sizes
 pub page-sized : (v : ℕ) → leb 3 v and leb v 7 ≡ true → pageSize (2 ^ v) ≡ true
 unfolding pageSize _or_

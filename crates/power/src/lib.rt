@@ -52,7 +52,7 @@ pub fn power_on(slot: Slot, image: &[u8], msg: &[u8], answer: &mut [u8]) -> Repl
         return seal(0x80, fault, 0, slot, msg, answer);
     };
     let len = answer_to_reset(chip, image, &mut answer[10..]);
-    let next = slot.power(true);
+    let next = slot.power(true).reset_set();
     seal(0x80, fault, len, next, msg, answer)
 }
 

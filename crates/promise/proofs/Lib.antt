@@ -11,3 +11,4 @@ pub mod Told
 pub mod Costs
 pub mod Pages
 pub mod Visits
+pub mod Parameters

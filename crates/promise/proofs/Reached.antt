@@ -18,7 +18,7 @@ use Rattle.steps.specs.Steps.{order, body, presents}
 use Rattle.steps.proofs.PresentAgain.{presents-is}
 use Rattle.steps.proofs.Decisions.{order-fits}
 use Rattle.faults.specs.declared.Fault.{Fault}
-use Rattle.faults.specs.Faults.{Request, PowerOn, PowerOff, SlotStatus, Transfer, Unsupported, apdu}
+use Rattle.faults.specs.Faults.{Request, SetParameters, PowerOn, PowerOff, SlotStatus, GetParameters, ResetParameters, Transfer, Unsupported, apdu}
 use Rattle.orders.specs.Orders.{performed, commanded}
 use Rattle.orders.proofs.ImageKept.{counter-kept}
 use Rattle.frame.specs.Exchange.{Outcome, deed, answered}
@@ -29,9 +29,12 @@ use Rattle.promise.specs.Tries.{none, wrong, right, rightNow, eventOf}
 
 -- ---- the tests of `reached`, read back
 pub transfers-is : (r : Request) → transfers r ≡ true → r ≡ Transfer
+transfers-is SetParameters e = absurd (false≢true e)
 transfers-is PowerOn e = absurd (false≢true e)
 transfers-is PowerOff e = absurd (false≢true e)
 transfers-is SlotStatus e = absurd (false≢true e)
+transfers-is GetParameters e = absurd (false≢true e)
+transfers-is ResetParameters e = absurd (false≢true e)
 transfers-is Transfer e = refl
 transfers-is Unsupported e = absurd (false≢true e)
 
@@ -74,9 +77,12 @@ module _ (chip : Chip) (s : Slot) (image : List ℕ) (m : Sent) (holds : s .hold
   deed-keeps : (r : Request) → facts chip .coded ≡ true → (transfers r ≡ true → presents (order (facts chip) s image apart) ≡ false)
       → byte (deed r (Card chip) s image (m .message) .image) (facts chip .counter) ≡ byte image (facts chip .counter)
   unfolding deed commanded performed
+  deed-keeps SetParameters c ne = refl
   deed-keeps PowerOn c ne = refl
   deed-keeps PowerOff c ne = refl
   deed-keeps SlotStatus c ne = refl
+  deed-keeps GetParameters c ne = refl
+  deed-keeps ResetParameters c ne = refl
   deed-keeps Transfer c ne =
       counter-kept (facts chip) (coded chip c) s image (body apart) (order (facts chip) s image apart) (order-fits (facts chip) s image apart) (ne refl)
   deed-keeps Unsupported c ne = refl

@@ -21,7 +21,7 @@ use Rattle.steps.specs.Steps.{order, body, presents}
 use Rattle.steps.proofs.PresentAgain.{presents-is}
 use Rattle.sound.specs.Sound.{fullCode}
 use Rattle.sound.proofs.SoundLaws.{Sound, sound-parts}
-use Rattle.faults.specs.Faults.{Request, PowerOn, PowerOff, SlotStatus, Transfer, Unsupported, apdu}
+use Rattle.faults.specs.Faults.{Request, SetParameters, PowerOn, PowerOff, SlotStatus, GetParameters, ResetParameters, Transfer, Unsupported, apdu}
 use Rattle.orders.specs.Orders.{performed, commanded, imageBy}
 use Rattle.orders.proofs.ImageKept.{shut-kept}
 use Rattle.frame.specs.Exchange.{Outcome, deed, insertion}
@@ -69,9 +69,12 @@ module _ (chip : Chip) (c : facts chip .coded ≡ true) (s : Slot) (image : List
 
   deed-zero : (r : Request) (m : List ℕ) → Proper s image → deed r (Card chip) s image m .image ≡ image
   unfolding deed commanded performed
+  deed-zero SetParameters m p = refl
   deed-zero PowerOn m p = refl
   deed-zero PowerOff m p = refl
   deed-zero SlotStatus m p = refl
+  deed-zero GetParameters m p = refl
+  deed-zero ResetParameters m p = refl
   deed-zero Transfer m p = order-zero (apdu m) p
   deed-zero Unsupported m p = refl
 

@@ -1,3 +1,4 @@
 pub mod Tries
 pub mod Sequences
 pub mod Visits
+pub mod Parameters

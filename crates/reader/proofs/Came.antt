@@ -5,14 +5,15 @@ use mathlib.Core.Bool.{true, false, not, false≢true}
 use mathlib.Core.List.{List}
 use lib.ListN.{length}
 use lib.Dec.{leb}
-use borrow.Author.Tests.{ltb-true, ltb-false, lt-leb, le-leb, not-true, not-false}
+use borrow.Author.Tests.{eqb-true, ltb-true, ltb-false, lt-leb, le-leb, not-true, not-false}
+use Rattle.words.specs.Choice.{_isnt_}
 use Rattle.words.specs.Bounds.{leastRoom}
 use Rattle.words.proofs.Choices.{either, past, and-true, and-fails, and-holds, both}
 use Rattle.slot.specs.declared.Slot.{Slot}
 use Rattle.sound.specs.Sound.{imageIsCard, sound}
 use Rattle.orders.specs.Orders.{Deed}
 use Rattle.faults.specs.declared.Fault.{Fault}
-use Rattle.faults.specs.Faults.{Request, headerFault, ready, faultOf, isClear}
+use Rattle.faults.specs.Faults.{Request, badField, ready, faultOf, isClear}
 use Rattle.frame.specs.declared.Refusal.{Refusal}
 use Rattle.frame.specs.Exchange.{Outcome, turnedDown, idle, deed, answered, replied, reply, served, exchange}
 use Rattle.reader.specs.Runs.{Sent, sending}
@@ -56,24 +57,26 @@ clear-is Fault.Clear e = refl
 clear-is Fault.Unknown e = absurd (false≢true e)
 clear-is Fault.Length e = absurd (false≢true e)
 clear-is Fault.OtherSlot e = absurd (false≢true e)
-clear-is Fault.Power e = absurd (false≢true e)
-clear-is Fault.Level e = absurd (false≢true e)
+clear-is (Fault.Field at) e = absurd (false≢true e)
 clear-is Fault.Card e = absurd (false≢true e)
 
--- a message without a fault met a slot that is ready for it
-record Met (r : Request) (s : Slot) (f : Fault) : Type 0 where
-  met : isClear f ≡ true → ready r s ≡ true
+-- a message without a fault has no wrong field, and met a slot that is ready for it
+record Met (r : Request) (s : Slot) (m : List ℕ) (f : Fault) : Type 0 where
+  met : isClear f ≡ true → (badField r m ≡ 0) × (ready r s ≡ true)
 
-fault-met : (r : Request) (s : Slot) (m : List ℕ) → Met r s (faultOf r s m)
+fault-met : (r : Request) (s : Slot) (m : List ℕ) → Met r s m (faultOf r s m)
 unfolding faultOf
 fault-met r s m =
-    past (Met r s) _ (record { met = no })
-    (λ _. past (Met r s) _ (record { met = no }) (λ _. past (Met r s) _ (record { met = no }) (λ _. past (Met r s) _ (record { met = no }) (λ _.
-    either (Met r s) (not (isClear (headerFault r m))) {x = headerFault r m} (λ e. record { met = λ h. absurd (false≢true (sym (not-true _ e) ∙ h)) }) (λ _.
-    either (Met r s) _ (λ _. record { met = no }) (λ e. record { met = λ _. not-false _ e }))))))
+    past (Met r s m) _ (record { met = no })
+    (λ _. past (Met r s m) _ (record { met = no }) (λ _. past (Met r s m) _ (record { met = no }) (λ _. past (Met r s m) _ (record { met = no }) (λ _.
+    past (Met r s m) (badField r m isnt 0) (record { met = no }) (λ k.
+    either (Met r s m) _ (λ _. record { met = no }) (λ e. record { met = λ _. (eqb-true _ 0 (not-false _ k), not-false _ e) }))))))
   where
-    no : false ≡ true → ready r s ≡ true
+    no : false ≡ true → (badField r m ≡ 0) × (ready r s ≡ true)
     no e = absurd (false≢true e)
 
+pub clear-field : (r : Request) (s : Slot) (m : List ℕ) → isClear (faultOf r s m) ≡ true → badField r m ≡ 0
+clear-field r s m e = fault-met r s m .met e .0
+
 pub clear-ready : (r : Request) (s : Slot) (m : List ℕ) → isClear (faultOf r s m) ≡ true → ready r s ≡ true
-clear-ready r s m = fault-met r s m .met
+clear-ready r s m e = fault-met r s m .met e .1

@@ -11,34 +11,39 @@ use Rattle.words.specs.Bounds.{leastRoom}
 use Rattle.words.proofs.Choices.{rest, either}
 use Rattle.chips.specs.declared.Chip.{Chip}
 use Rattle.chips.specs.Kinds.{facts}
+use Rattle.sets.specs.Sets.{setOf}
+use Rattle.sets.proofs.SetLaws.{named-taken}
 use Rattle.card.proofs.ImageLaws.{IsCard, card-parts, card-whole}
 use Rattle.slot.specs.declared.Holds.{Holds}
 use Rattle.slot.specs.declared.Holds.the-variants.{Empty, Card}
 use Rattle.slot.specs.declared.Slot.{Slot}
-use Rattle.slot.specs.Slots.{inserted, removed}
+use Rattle.slot.specs.Slots.{inserted, removed, powered}
 use Rattle.sound.specs.Sound.{imageIsCard, sound}
-use Rattle.sound.proofs.SoundLaws.{sound-parts, sound-whole, on-sound, off-sound, inserted-sound, removed-sound}
+use Rattle.sound.proofs.SoundLaws.{Sound, sound-parts, sound-whole, on-sound, off-sound, set-sound, defaulted-sound, inserted-sound, removed-sound}
 use Rattle.steps.specs.Steps.{order, body}
 use Rattle.steps.proofs.Decisions.{order-fits}
 use Rattle.orders.specs.Orders.{performed, commanded, imageBy, slotBy}
 use Rattle.orders.proofs.ImageKept.{card-kept}
 use Rattle.orders.proofs.SlotKept.{slotBy-holds, order-sound}
-use Rattle.faults.specs.Faults.{Request, PowerOn, PowerOff, SlotStatus, Transfer, Unsupported, apdu, ready, faultOf, isClear}
+use Rattle.faults.specs.Faults.{Request, SetParameters, PowerOn, PowerOff, SlotStatus, GetParameters, ResetParameters, Transfer, Unsupported, apdu, badField, ready, faultOf, isClear}
 use Rattle.frame.specs.Exchange.{Outcome, deed, served, exchange, insertion}
 use Rattle.reader.specs.Runs.{Sent}
 use Rattle.reader.specs.Proper.{Proper}
 use Rattle.reader.specs.Heard.{requested}
 use Rattle.reader.proofs.Verdicts.{refused-some}
 use Rattle.reader.proofs.Insertions.{Accepted, Inserts, insertion-inserts}
-use Rattle.reader.proofs.Came.{Came, down, failed, obeyed, came, heard-proper, heard-clear, clear-ready}
+use Rattle.reader.proofs.Came.{Came, down, failed, obeyed, came, heard-proper, heard-clear, clear-field, clear-ready}
 
 -- ---- the same card
 deed-holds : (r : Request) (h : Holds) (s : Slot) (image m : List ℕ) → deed r h s image m .slot .holds ≡ s .holds
 unfolding deed commanded performed
+deed-holds SetParameters h s image m = refl
 deed-holds PowerOn Empty s image m = refl
 deed-holds PowerOn (Card chip) s image m = refl
 deed-holds PowerOff h s image m = refl
 deed-holds SlotStatus h s image m = refl
+deed-holds GetParameters h s image m = refl
+deed-holds ResetParameters h s image m = refl
 deed-holds Transfer Empty s image m = refl
 deed-holds Transfer (Card chip) s image m = slotBy-holds (facts chip) s image (body (apdu m)) (order (facts chip) s image (apdu m))
 deed-holds Unsupported h s image m = refl
@@ -91,21 +96,30 @@ command-proper chip s image d e on p =
       sound = sound-whole _ _ (order-sound chip s image d e on k (sound-parts s image (p .sound)));
     }
 
-deed-proper : (r : Request) (h : Holds) (s : Slot) (image m : List ℕ) → s .holds ≡ h → ready r s ≡ true → Proper s image
+-- a change of the record alone, which keeps it sound
+changed-proper : (s t : Slot) (image : List ℕ) → t .holds ≡ s .holds → (Sound s image → Sound t image) → Proper s image → Proper t image
+changed-proper s t image e f p =
+    record { card = ap (λ (h : Holds). imageIsCard h image) e ∙ p .card; sound = sound-whole _ _ (f (sound-parts s image (p .sound))) }
+
+deed-proper : (r : Request) (h : Holds) (s : Slot) (image m : List ℕ) → s .holds ≡ h → badField r m ≡ 0 → ready r s ≡ true → Proper s image
     → Proper (deed r h s image m .slot) (deed r h s image m .image)
 unfolding deed commanded performed
-deed-proper PowerOn Empty s image m e on p = p
-deed-proper PowerOn (Card chip) s image m e on p = record { card = p .card; sound = sound-whole _ _ (on-sound s image on (sound-parts s image (p .sound))) }
-deed-proper PowerOff h s image m e on p = record { card = p .card; sound = sound-whole _ _ (off-sound s image (sound-parts s image (p .sound))) }
-deed-proper SlotStatus h s image m e on p = p
-deed-proper Transfer Empty s image m e on p = p
-deed-proper Transfer (Card chip) s image m e on p = command-proper chip s image (apdu m) e on p
-deed-proper Unsupported h s image m e on p = p
+deed-proper SetParameters h s image m e k on p = changed-proper s _ image refl (set-sound s image (setOf m) (named-taken m k) on) p
+deed-proper PowerOn Empty s image m e k on p = p
+deed-proper PowerOn (Card chip) s image m e k on p = changed-proper s _ image refl (λ r. defaulted-sound (powered true s) image (on-sound s image on r)) p
+deed-proper PowerOff h s image m e k on p = changed-proper s _ image refl (off-sound s image) p
+deed-proper SlotStatus h s image m e k on p = p
+deed-proper GetParameters h s image m e k on p = p
+deed-proper ResetParameters h s image m e k on p = changed-proper s _ image refl (defaulted-sound s image) p
+deed-proper Transfer Empty s image m e k on p = p
+deed-proper Transfer (Card chip) s image m e k on p = command-proper chip s image (apdu m) e on p
+deed-proper Unsupported h s image m e k on p = p
 
 module _ (s : Slot) (image : List ℕ) (m : Sent) where
   done-proper : Proper s image → isClear (faultOf (requested m) s (m .message)) ≡ true
       → Proper (deed (requested m) (s .holds) s image (m .message) .slot) (deed (requested m) (s .holds) s image (m .message) .image)
-  done-proper p e = deed-proper (requested m) (s .holds) s image (m .message) refl (clear-ready (requested m) s (m .message) e) p
+  done-proper p e =
+      deed-proper (requested m) (s .holds) s image (m .message) refl (clear-field (requested m) s (m .message) e) (clear-ready (requested m) s (m .message) e) p
 
   answered-came : {o : Outcome} → Came s image m o → o .number ≡ 0 → Proper (o .slot) (o .image)
   answered-came (down r h) e = absurd (omega (arith, refused-some r, e))

@@ -11,6 +11,8 @@ use Rattle.words.specs.Bounds.{longestAnswer}
 use Rattle.words.proofs.Choices.{past, either}
 use Rattle.chips.specs.declared.Facts.{Facts}
 use Rattle.chips.specs.Kinds.{facts}
+use Rattle.sets.specs.Sets.{defaultSet, setOf}
+use Rattle.sets.proofs.SetLaws.{bytes-short}
 use Rattle.card.proofs.ImageLaws.{card-parts}
 use Rattle.slot.specs.declared.Slot.{Slot}
 use Rattle.slot.specs.declared.Holds.{Holds}
@@ -21,7 +23,7 @@ use Rattle.steps.proofs.Decisions.{order-fits, order-short}
 use Rattle.orders.specs.Orders.{Deed, commanded, performed}
 use Rattle.orders.proofs.Lengths.{said-short}
 use Rattle.faults.specs.declared.Fault.{Fault}
-use Rattle.faults.specs.Faults.{Request, PowerOn, PowerOff, SlotStatus, Transfer, Unsupported, apdu, typeByte, requestOf, faultOf}
+use Rattle.faults.specs.Faults.{Request, SetParameters, PowerOn, PowerOff, SlotStatus, GetParameters, ResetParameters, Transfer, Unsupported, apdu, typeByte, requestOf, faultOf}
 use Rattle.frame.specs.Answers.{header, answer}
 use Rattle.frame.specs.Exchange.{Outcome, reset, deed, replied, reply, served, exchange}
 
@@ -32,10 +34,13 @@ reset-short f image = either (λ (l : List ℕ). length l ≤ 257) _ (λ _. omeg
 module _ (s : Slot) (image m : List ℕ) (byte : p3 (apdu m) < 256) where
   deed-short : (r : Request) (h : Holds) → imageIsCard h image ≡ true → length (deed r h s image m .said) ≤ 257
   unfolding deed commanded performed
+  deed-short SetParameters h e = omega (arith, bytes-short (setOf m))
   deed-short PowerOn Empty e = omega arith
   deed-short PowerOn (Card chip) e = reset-short (facts chip) image
   deed-short PowerOff h e = omega arith
   deed-short SlotStatus h e = omega arith
+  deed-short GetParameters h e = omega (arith, bytes-short (s .set))
+  deed-short ResetParameters h e = omega (arith, bytes-short defaultSet)
   deed-short Transfer Empty e = omega arith
   deed-short Transfer (Card chip) e =
       said-short chip s image (body (apdu m)) (order (facts chip) s image (apdu m)) (card-parts (facts chip) image e .long)

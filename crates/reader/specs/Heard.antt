@@ -11,7 +11,7 @@ use Rattle.slot.specs.declared.Slot.{Slot}
 use Rattle.sound.specs.Sound.{imageIsCard, sound}
 use Rattle.steps.specs.Steps.{order, presents}
 use Rattle.faults.specs.declared.Fault.{Fault}
-use Rattle.faults.specs.Faults.{Request, PowerOn, PowerOff, SlotStatus, Transfer, Unsupported, typeByte, apdu, requestOf, faultOf, isClear}
+use Rattle.faults.specs.Faults.{Request, SetParameters, PowerOn, PowerOff, SlotStatus, GetParameters, ResetParameters, Transfer, Unsupported, typeByte, apdu, requestOf, faultOf, isClear}
 use Rattle.reader.specs.Runs.{Sent}
 
 -- what the message asks for, and what is wrong with it
@@ -32,9 +32,12 @@ heard s image m =
 
 -- it is a transfer
 abbrev pub transfers : Request → Bool
+transfers SetParameters = false
 transfers PowerOn = false
 transfers PowerOff = false
 transfers SlotStatus = false
+transfers GetParameters = false
+transfers ResetParameters = false
 transfers Transfer = true
 transfers Unsupported = false
 

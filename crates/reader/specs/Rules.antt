@@ -2,15 +2,16 @@
 use Prim.Native.Nat.{ℕ}
 use lib.Count.{trailingZeros}
 use Rattle.words.specs.Choice.{_⇒_⁏_, _and_, _or_, _means_}
-use Rattle.words.specs.Bytes.{same, fourBytes, fourAt, over, series}
+use Rattle.words.specs.Bytes.{same, fourBytes, fourAt, numberOf, part, lowFirst, over, series}
 use Rattle.chips.specs.Kinds.{chipAmong, chipOf}
 use Rattle.bits.specs.Bits.{cleared, protectionBit, isProtected, firstProtected, protecting, protectEqual, packed, packedBytes}
 use Rattle.codes.specs.Counters.{spent}
 use Rattle.codes.specs.Codes.{spending, judging, presenting, accepts}
 use Rattle.pages.specs.Pages.{cutStart, lands, pageWrite, written}
 use Rattle.reads.specs.Reads.{visible, bytesRead, counterRead}
+use Rattle.sets.specs.Sets.{setWith, defaultSet, lengthOf, fitsLength, reservedFI, reservedDI, longWait, faultAt, setOf, takes}
 use Rattle.card.specs.Images.{isCard}
-use Rattle.sound.specs.Sound.{pageSize, emptySound, idleSound, typeSound, openSound, sound}
+use Rattle.sound.specs.Sound.{pageSize, emptySound, idleSound, typeSound, openSound, setSound, sound}
 use Rattle.steps.specs.Steps.{insOf, steps, order}
 use Rattle.orders.specs.Orders.{saidBy, imageBy, slotBy, performed, commanded}
 use Rattle.faults.specs.Faults.{requestOf, faultOf}
@@ -19,8 +20,9 @@ use Rattle.frame.specs.Exchange.{reset, deed, replied, reply, served, exchange,
 use Rattle.reader.specs.Runs.{run}
 
 unfoldable pub rules : ℕ
-unfolding trailingZeros _⇒_⁏_ _and_ _or_ _means_ same fourBytes fourAt over series chipAmong chipOf spent cleared protectionBit isProtected
-    firstProtected protecting protectEqual packed packedBytes isCard pageSize emptySound idleSound typeSound openSound sound visible bytesRead
+unfolding trailingZeros _⇒_⁏_ _and_ _or_ _means_ same fourBytes fourAt numberOf part lowFirst over series chipAmong chipOf spent cleared protectionBit isProtected
+    firstProtected protecting protectEqual packed packedBytes setWith defaultSet lengthOf fitsLength reservedFI reservedDI longWait
+    faultAt setOf takes isCard pageSize emptySound idleSound typeSound openSound setSound sound visible bytesRead
     counterRead cutStart lands pageWrite written spending judging presenting accepts insOf steps order saidBy imageBy slotBy performed commanded reset
     requestOf faultOf cardState bStatus byte9 header answer deed replied reply served exchange insertedAs insertion run
 rules = 0

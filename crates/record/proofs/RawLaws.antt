@@ -10,7 +10,7 @@ use lib.Dec.{ltb}
 use lib.Seq.{drop-cons, sets, sets-eq}
 use borrow.Author.Tests.{eq-eqb, ne-eqb, eqb-true, not-false, ltb-false}
 use Rattle.words.specs.Choice.{_and_, _is_, _isnt_}
-use Rattle.words.specs.Bytes.{byte, fourAt, eightAt}
+use Rattle.words.specs.Bytes.{byte, fourAt, eightAt, lowFirst}
 use Rattle.words.proofs.Choices.{either, and-end, and-fails, and-holds}
 use Rattle.words.proofs.Lists.{sets-snoc, sum-zero}
 use Rattle.slot.specs.declared.Slot.{Slot}
@@ -91,7 +91,7 @@ pub record Made (h : Holds) (r : List ℕ) (s : Slot) : Type 0 where
   pub long : length r ≡ 32
   pub on : byte r 1 ≤ 1
   pub unlocked : byte r 4 ≤ 1
-  pub rest : blank (drop 5 r) ≡ true
+  pub rest : blank (drop 13 r) ≡ true
   pub said : slotFrom h r ≡ s
 
 pub found-with : (h : Holds) (r : List ℕ) (s : Slot) → slotWith h r ≡ Reading.Found s → Made h r s
@@ -101,7 +101,7 @@ found-with h r s =
     either P (length r isnt 32) (λ _. broken-found) (λ a.
     either P (ltb 1 (byte r 1)) (λ _. broken-found) (λ b.
     either P (ltb 1 (byte r 4)) (λ _. broken-found) (λ c.
-    either P (not (blank (drop 5 r))) (λ _. broken-found) (λ d e.
+    either P (not (blank (drop 13 r))) (λ _. broken-found) (λ d e.
     record {
       long = eqb-true _ _ (not-false _ a);
       on = ltb-false 1 (byte r 1) b;
@@ -111,38 +111,38 @@ found-with h r s =
     }))))
 
 -- ---- what is written
--- kind, bytes 1 to 4 and the rest, stored one behind the other, are the record
-pub record-written : (r : List ℕ) (s : Slot) (k : ℕ) → length r ≡ 32 → k ≡ kindOf (s .holds) → sets (sets (set r 0 k) 1 (stateOf s)) 5 (replicate 27 0) ≡ rawOf s
-unfolding rawOf
+-- kind, bytes 1 to 12 and the rest, stored one behind the other, are the record
+pub record-written : (r : List ℕ) (s : Slot) (k : ℕ) → length r ≡ 32 → k ≡ kindOf (s .holds) → sets (sets (set r 0 k) 1 (stateOf s)) 13 (replicate 19 0) ≡ rawOf s
+unfolding rawOf lowFirst
 record-written r s k e h =
-    let w : ℕ → List ℕ = λ x. x ∷ stateOf s ++ replicate 27 0 in
+    let w : ℕ → List ℕ = λ x. x ∷ stateOf s ++ replicate 19 0 in
     sets-eq (w k) r 0 (omega arith)
     ∙ ap (λ (t : List ℕ). w k ++ t) (drop-of-length-le r {i = 32} (omega arith))
     ∙ append-nil (w k)
     ∙ ap w h
 
--- 27 bytes of rest make 32
-pub rest-long : (r : List ℕ) → drop 5 r ≡ replicate 27 0 → length r ≡ 32
+-- 19 bytes of rest make 32
+pub rest-long : (r : List ℕ) → drop 13 r ≡ replicate 19 0 → length r ≡ 32
 rest-long r e =
-    let p : length (drop 5 r) ≡ 27 = ap length e in
-    omega (arith, p, length-drop 5 r)
+    let p : length (drop 13 r) ≡ 19 = ap length e in
+    omega (arith, p, length-drop 13 r)
 
--- bytes 1 to 4 make it the record of a slot, where the kind is the slot's already and the rest 00h
-pub state-written : (r : List ℕ) (s : Slot) → byte r 0 ≡ kindOf (s .holds) → drop 5 r ≡ replicate 27 0 → sets r 1 (stateOf s) ≡ rawOf s
-unfolding rawOf
+-- bytes 1 to 12 make it the record of a slot, where the kind is the slot's already and the rest 00h
+pub state-written : (r : List ℕ) (s : Slot) → byte r 0 ≡ kindOf (s .holds) → drop 13 r ≡ replicate 19 0 → sets r 1 (stateOf s) ≡ rawOf s
+unfolding rawOf lowFirst
 state-written [] s k e = absurd (omega (arith, rest-long [] e))
 state-written (a ∷ r) s k e =
     sets-eq (stateOf s) (a ∷ r) 1 (omega (arith, rest-long (a ∷ r) e))
     ∙ ap (λ (t : List ℕ). a ∷ stateOf s ++ t) e
-    ∙ ap (λ (x : ℕ). x ∷ stateOf s ++ replicate 27 0) k
+    ∙ ap (λ (x : ℕ). x ∷ stateOf s ++ replicate 19 0) k
 
 -- a loop that makes the rest 00h: one turn
-pub rest-more : (r : List ℕ) (i : ℕ) → 5 ≤ i → set (sets r 5 (replicate (i - 5) 0)) i 0 ≡ sets r 5 (replicate (i + 1 - 5) 0)
+pub rest-more : (r : List ℕ) (i : ℕ) → 13 ≤ i → set (sets r 13 (replicate (i - 13) 0)) i 0 ≡ sets r 13 (replicate (i + 1 - 13) 0)
 rest-more r i h =
-    let z : List ℕ = replicate (i - 5) 0 in
-    let p : 5 + length z ≡ i = omega (arith, length-replicate {A = ℕ} (i - 5) 0) in
-    let q : i - 5 + 1 ≡ i + 1 - 5 = omega arith in
-    ap (λ (k : ℕ). set (sets r 5 z) k 0) (sym p)
-    ∙ sym (sets-snoc r 5 z 0)
-    ∙ ap (sets r 5) (replicate-append-replicate {A = ℕ} (i - 5) 1 0)
-    ∙ ap (λ (n : ℕ). sets r 5 (replicate n 0)) q
+    let z : List ℕ = replicate (i - 13) 0 in
+    let p : 13 + length z ≡ i = omega (arith, length-replicate {A = ℕ} (i - 13) 0) in
+    let q : i - 13 + 1 ≡ i + 1 - 13 = omega arith in
+    ap (λ (k : ℕ). set (sets r 13 z) k 0) (sym p)
+    ∙ sym (sets-snoc r 13 z 0)
+    ∙ ap (sets r 13) (replicate-append-replicate {A = ℕ} (i - 13) 1 0)
+    ∙ ap (λ (n : ℕ). sets r 13 (replicate n 0)) q

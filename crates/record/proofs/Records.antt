@@ -1,13 +1,15 @@
 -- Theorems about raw records: what is written reads back as the same slot, and what was read is what would be written.
-use mathlib.Core.Path.{_≡_, refl, sym, ap, _∙_}
+use mathlib.Core.Path.{_≡_, refl, sym, ap, ap₂, _∙_, subst}
 use Prim.Native.Nat.{ℕ, zero, suc, _≤_}
 use mathlib.Core.Bool.{Bool, true, false}
-use mathlib.Core.List.{List, [], _∷_}
+use mathlib.Core.List.{List, [], _∷_, _++_}
 use native.Mathlib.Omega.{arith}
-use lib.ListN.{length, replicate}
+use lib.ListN.{length, take, drop, replicate, length-drop, take-append-drop}
 use borrow.Author.Tests.{eqb-true, ne-eqb}
 use Rattle.words.specs.Choice.{_⇒_⁏_, _and_, _is_}
-use Rattle.words.specs.Bytes.{byte}
+use Rattle.words.specs.Bytes.{AllBytes, byte, fourAt, eightAt, lowFirst, series}
+use Rattle.words.proofs.Numbers.{eight-back, series-bytes, eight-number, low-number}
+use Rattle.words.proofs.Lists.{length-series, series-part}
 use Rattle.words.proofs.Choices.{rest, either, and-true}
 use Rattle.chips.specs.declared.Known.{Known}
 use Rattle.chips.specs.Kinds.{facts, chipOf}
@@ -21,22 +23,24 @@ use Rattle.record.specs.Raw.{kindOf, flagOf, rawOf, blank, slotWith, car
 use Rattle.record.proofs.RawLaws.{Made, found-with, unknown-found}
 
 -- ---- what is written reads back as the same slot
-with-back : (h : Holds) (on : Bool) (t p : ℕ) (op : Bool) → slotWith h (rawOf (slotted h on t p op)) ≡ Reading.Found (slotted h on t p op)
-unfolding slotWith rawOf blank _⇒_⁏_ _and_
-with-back h true t p true = refl
-with-back h true t p false = refl
-with-back h false t p true = refl
-with-back h false t p false = refl
+with-back : (h : Holds) (on : Bool) (t p : ℕ) (op : Bool) (set : ℕ) → slotWith h (rawOf (slotted h on t p op set)) ≡ Reading.Found (slotted h on t p op set)
+unfolding slotWith rawOf blank lowFirst eightAt fourAt _⇒_⁏_ _and_
+with-back h true t p true set = ap (λ (n : ℕ). Reading.Found (slotted h true t p true n)) (eight-back set (replicate 19 0))
+with-back h true t p false set = ap (λ (n : ℕ). Reading.Found (slotted h true t p false n)) (eight-back set (replicate 19 0))
+with-back h false t p true set = ap (λ (n : ℕ). Reading.Found (slotted h false t p true n)) (eight-back set (replicate 19 0))
+with-back h false t p false set = ap (λ (n : ℕ). Reading.Found (slotted h false t p false n)) (eight-back set (replicate 19 0))
 
-holds-back : (h : Holds) (on : Bool) (t p : ℕ) (op : Bool) → slotOf (rawOf (slotted h on t p op)) ≡ slotWith h (rawOf (slotted h on t p op))
+holds-back : (h : Holds) (on : Bool) (t p : ℕ) (op : Bool) (set : ℕ) → slotOf (rawOf (slotted h on t p op set)) ≡ slotWith h (rawOf (slotted h on t p op set))
 unfolding slotOf cardWith rawOf _⇒_⁏_
-holds-back Holds.Empty on t p op = refl
-holds-back (Holds.Card chip) on t p op =
-    let r : List ℕ = rawOf (slotted (Holds.Card chip) on t p op) in
+holds-back Holds.Empty on t p op set = refl
+holds-back (Holds.Card chip) on t p op set =
+    let r : List ℕ = rawOf (slotted (Holds.Card chip) on t p op set) in
     rest _ _ (ne-eqb (facts chip .kind) 0 (λ e. omega (arith, laid chip .numbered))) ∙ ap (λ (k : Known). cardWith k r) (known-kind chip)
 
 pub reads-back : (s : Slot) → slotOf (rawOf s) ≡ Reading.Found s
-reads-back s = holds-back (s .holds) (s .active) (s .selected) (s .page) (s .«open») ∙ with-back (s .holds) (s .active) (s .selected) (s .page) (s .«open»)
+reads-back s =
+    holds-back (s .holds) (s .active) (s .selected) (s .page) (s .«open») (s .set)
+    ∙ with-back (s .holds) (s .active) (s .selected) (s .page) (s .«open») (s .set)
 
 -- ---- what was read is what would be written
 -- a byte that is 0 or 1 is the flag it is read as
@@ -55,30 +59,53 @@ blank-told (x ∷ l) (suc n) e h =
     let q : l ≡ replicate n 0 = blank-told l n (omega arith) (and-true _ _ h .1) in
     cc
 
-made-raw : (h : Holds) (r : List ℕ) (s : Slot) → kindOf h ≡ byte r 0 → Made h r s → r ≡ rawOf s
-unfolding rawOf
-made-raw h [] s k l = absurd (omega (arith, l .long))
-made-raw h (a ∷ []) s k l = absurd (omega (arith, l .long))
-made-raw h (a ∷ b ∷ []) s k l = absurd (omega (arith, l .long))
-made-raw h (a ∷ b ∷ c ∷ []) s k l = absurd (omega (arith, l .long))
-made-raw h (a ∷ b ∷ c ∷ d ∷ []) s k l = absurd (omega (arith, l .long))
-made-raw h (a ∷ b ∷ c ∷ d ∷ e ∷ r) s k l =
-    let w : ℕ → ℕ → ℕ → List ℕ → List ℕ = λ x y z t. x ∷ y ∷ c ∷ d ∷ z ∷ t in
-    let n : length r ≡ 27 = omega (arith, l .long) in
-    ap (w a b e) (blank-told r 27 n (l .rest))
-    ∙ ap (λ (x : ℕ). w x b e (replicate 27 0)) (sym k)
-    ∙ ap (λ (y : ℕ). w (kindOf h) y e (replicate 27 0)) (sym (flag-told b (l .on)))
-    ∙ ap (λ (z : ℕ). w (kindOf h) (flagOf (b is 1)) z (replicate 27 0)) (sym (flag-told e (l .unlocked)))
-    ∙ ap rawOf (l .said)
+-- a record that was found: its kind byte is the slot's, and the rest is 00h
+pub record Front (r : List ℕ) (s : Slot) : Type 0 where
+  pub kind : byte r 0 ≡ kindOf (s .holds)
+  pub made : Made (s .holds) r s
 
-card-raw : (k : Known) (r : List ℕ) (s : Slot) → chipOf (byte r 0) ≡ k → cardWith k r ≡ Reading.Found s → r ≡ rawOf s
+pub front-rest : {r : List ℕ} {s : Slot} → Front r s → drop 13 r ≡ replicate 19 0
+front-rest {r} f = blank-told (drop 13 r) 19 (omega (arith, length-drop 13 r, f .made .long)) (f .made .rest)
+
+made-front : (h : Holds) (r : List ℕ) (s : Slot) → kindOf h ≡ byte r 0 → Made h r s → Front r s
+made-front h r s k l =
+    let e : h ≡ s .holds = ap (λ (t : Slot). t .holds) (l .said) in
+    record { kind = sym k ∙ ap kindOf e; made = subst (λ (x : Holds). Made x r s) e l }
+
+card-front : (k : Known) (r : List ℕ) (s : Slot) → chipOf (byte r 0) ≡ k → cardWith k r ≡ Reading.Found s → Front r s
 unfolding cardWith
-card-raw (Known.Is chip) r s k e = made-raw (Holds.Card chip) r s (kind-of-found (byte r 0) chip k) (found-with (Holds.Card chip) r s e)
-card-raw Known.Unknown r s k e = unknown-found e
+card-front (Known.Is chip) r s k e = made-front (Holds.Card chip) r s (kind-of-found (byte r 0) chip k) (found-with (Holds.Card chip) r s e)
+card-front Known.Unknown r s k e = unknown-found e
 
-pub found-raw : (r : List ℕ) (s : Slot) → slotOf r ≡ Reading.Found s → r ≡ rawOf s
+pub found-front : (r : List ℕ) (s : Slot) → slotOf r ≡ Reading.Found s → Front r s
 unfolding slotOf
-found-raw r s =
-    either (λ (x : Reading). x ≡ Reading.Found s → r ≡ rawOf s) (byte r 0 is 0)
-    (λ z e. made-raw Holds.Empty r s (sym (eqb-true (byte r 0) 0 z)) (found-with Holds.Empty r s e))
-    (λ _ e. card-raw (chipOf (byte r 0)) r s refl e)
+found-front r s =
+    either (λ (x : Reading). x ≡ Reading.Found s → Front r s) (byte r 0 is 0)
+    (λ z e. made-front Holds.Empty r s (sym (eqb-true (byte r 0) 0 z)) (found-with Holds.Empty r s e))
+    (λ _ e. card-front (chipOf (byte r 0)) r s refl e)
+
+-- so its bytes are those of the slot, all of them
+set-told : (r : List ℕ) → AllBytes r → series (byte r) 5 8 ≡ lowFirst 7 (eightAt r 5)
+set-told r b =
+    sym (ap (lowFirst 7) (eight-number r 5 b) ∙ low-number 7 (series (byte r) 5 8) (length-series (byte r) 5 8) (series-bytes (byte r) (b .fits) 5 8))
+
+front-raw : (r : List ℕ) (s : Slot) → AllBytes r → Front r s → r ≡ rawOf s
+unfolding rawOf
+front-raw [] s b f = absurd (omega (arith, f .made .long))
+front-raw (x ∷ []) s b f = absurd (omega (arith, f .made .long))
+front-raw (x ∷ y ∷ []) s b f = absurd (omega (arith, f .made .long))
+front-raw (x ∷ y ∷ z ∷ []) s b f = absurd (omega (arith, f .made .long))
+front-raw (x ∷ y ∷ z ∷ u ∷ []) s b f = absurd (omega (arith, f .made .long))
+front-raw (x ∷ y ∷ z ∷ u ∷ v ∷ l) s b f =
+    let r : List ℕ = x ∷ y ∷ z ∷ u ∷ v ∷ l in
+    let w : ℕ → ℕ → ℕ → List ℕ → List ℕ = λ i j k t. i ∷ j ∷ z ∷ u ∷ k ∷ t in
+    let set : take 8 l ≡ lowFirst 7 (eightAt r 5) = sym (series-part (byte r) 5 5 8 r (omega (arith, f .made .long)) (λ j _. refl)) ∙ set-told r b in
+    let tail : l ≡ lowFirst 7 (eightAt r 5) ++ replicate 19 0 = sym (take-append-drop 8 l) ∙ ap₂ _++_ set (front-rest f) in
+    ap (w x y v) tail
+    ∙ ap (λ (i : ℕ). w i y v (lowFirst 7 (eightAt r 5) ++ replicate 19 0)) (f .kind)
+    ∙ ap (λ (j : ℕ). w (kindOf (s .holds)) j v (lowFirst 7 (eightAt r 5) ++ replicate 19 0)) (sym (flag-told y (f .made .on)))
+    ∙ ap (λ (k : ℕ). w (kindOf (s .holds)) (flagOf (y is 1)) k (lowFirst 7 (eightAt r 5) ++ replicate 19 0)) (sym (flag-told v (f .made .unlocked)))
+    ∙ ap rawOf (f .made .said)
+
+pub found-raw : (r : List ℕ) (s : Slot) → AllBytes r → slotOf r ≡ Reading.Found s → r ≡ rawOf s
+found-raw r s b e = front-raw r s b (found-front r s e)

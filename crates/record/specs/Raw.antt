@@ -1,11 +1,11 @@
 -- The raw slot record, 32 bytes: what is written, and what any bytes are read as.
 use Prim.Native.Nat.{ℕ}
 use mathlib.Core.Bool.{Bool, true, false, not}
-use mathlib.Core.List.{List, [], _∷_}
+use mathlib.Core.List.{List, [], _∷_, _++_}
 use lib.ListN.{length, drop, replicate}
 use lib.Dec.{ltb}
 use Rattle.words.specs.Choice.{_⇒_⁏_, _and_, _is_, _isnt_}
-use Rattle.words.specs.Bytes.{byte}
+use Rattle.words.specs.Bytes.{byte, eightAt, lowFirst}
 use Rattle.chips.specs.declared.Known.{Known}
 use Rattle.chips.specs.declared.Known.the-variants.{Is, Unknown}
 use Rattle.chips.specs.Kinds.{facts, chipOf}
@@ -26,13 +26,13 @@ abbrev pub flagOf : Bool → ℕ
 flagOf true = 1
 flagOf false = 0
 
--- what of a slot a message may change: "active, selected type, reader page, open"
+-- what of a slot a message may change: "active, selected type, reader page, open", and the parameters: protocol number, then seven bytes
 abbrev pub stateOf : Slot → List ℕ
-stateOf s = flagOf (s .active) ∷ s .selected ∷ s .page ∷ flagOf (s .«open») ∷ []
+stateOf s = flagOf (s .active) ∷ s .selected ∷ s .page ∷ flagOf (s .«open») ∷ lowFirst 7 (s .set)
 
--- "kind, active, selected type, reader page, open, the rest 00h"
+-- "kind, active, selected type, reader page, open", the parameters, "the rest 00h"
 unfoldable pub rawOf : Slot → List ℕ
-rawOf s = kindOf (s .holds) ∷ flagOf (s .active) ∷ s .selected ∷ s .page ∷ flagOf (s .«open») ∷ replicate 27 0
+rawOf s = kindOf (s .holds) ∷ stateOf s ++ replicate 19 0
 
 -- ---- what is read
 -- bytes that are 00h, all of them
@@ -41,7 +41,7 @@ blank [] = true
 blank (x ∷ xs) = x is 0 and blank xs
 
 abbrev pub slotFrom : Holds → List ℕ → Slot
-slotFrom h r = slotted h (byte r 1 is 1) (byte r 2) (byte r 3) (byte r 4 is 1)
+slotFrom h r = slotted h (byte r 1 is 1) (byte r 2) (byte r 3) (byte r 4 is 1) (eightAt r 5)
 
 -- "A record of another length, a byte where only 0 or 1 may stand, a rest byte not 00h": broken. What it holds is told by the kind byte.
 unfoldable pub slotWith : Holds → List ℕ → Reading
@@ -49,7 +49,7 @@ slotWith h r =
     length r isnt 32 ⇒ Reading.Broken h
     ⁏ ltb 1 (byte r 1) ⇒ Reading.Broken h
     ⁏ ltb 1 (byte r 4) ⇒ Reading.Broken h
-    ⁏ not (blank (drop 5 r)) ⇒ Reading.Broken h
+    ⁏ not (blank (drop 13 r)) ⇒ Reading.Broken h
     ⁏ Reading.Found (slotFrom h r)
 
 unfoldable pub cardWith : Known → List ℕ → Reading

@@ -1,4 +1,5 @@
-// The raw slot record, 32 bytes: kind (0 none), active (0 or 1), selected type (0 none), reader page, open (0 or 1), the rest 00h.
+// The raw slot record, 32 bytes: kind (0 none), active (0 or 1), selected type (0 none), reader page, open (0 or 1), protocol number and seven
+// bytes of the parameters, the rest 00h.
 // Any bytes at all may come as a record. No offered function has a `requires`: each has its one result for every input.
 // The rules are written in specs/Raw.antt.
 
@@ -6,6 +7,8 @@ use chips::Known;
 use slot::Holds;
 use slot::Slot;
 use words::byte_at;
+use words::eight_at;
+use words::put_eight;
 ghost use mathlib.Core.Path.{_≡_};
 ghost use Prim.Native.Nat.{_≤_};
 ghost use lib.ListN.{length, drop, replicate};
@@ -42,23 +45,24 @@ fn flag_of(flag: bool) -> u8
     if flag { 1 } else { 0 }
 }
 
-// Writes what of a slot a message may change: bytes 1 to 4.
+// Writes what of a slot a message may change: bytes 1 to 12.
 pub fn write_state(slot: Slot, raw: &mut [u8])
-    requires { ⌜ 5 ≤ length (now raw) ⌝ }
+    requires { ⌜ 13 ≤ length (now raw) ⌝ }
     ensures { λ _. ⌜ now (raw .exit) ≡ sets (now (raw .entry)) 1 (stateOf slot) ⌝ }
 {
     raw[1] = flag_of(slot.active);
     raw[2] = slot.selected;
     raw[3] = slot.page;
     raw[4] = flag_of(slot.open);
+    put_eight(raw, 5, slot.set);
 }
 
-// Makes the rest, byte 5 on, 00h.
+// Makes the rest, byte 13 on, 00h.
 fn clear_rest(raw: &mut [u8])
     requires { ⌜ length (now raw) ≡ 32 ⌝ }
-    ensures { λ _. ⌜ now (raw .exit) ≡ sets (now (raw .entry)) 5 (replicate 27 0) ⌝ }
+    ensures { λ _. ⌜ now (raw .exit) ≡ sets (now (raw .entry)) 13 (replicate 19 0) ⌝ }
 {
-    let mut i = 5;
+    let mut i = 13;
     while i < raw.len() {
         raw[i] = 0;
         i += 1;
@@ -80,18 +84,15 @@ pub fn write_record(slot: Slot, raw: &mut [u8])
 
 // ---- reading
 
-// Whether the rest, byte 5 on, is 00h: eight bytes at a time, and the last four.
+// Whether the rest, byte 13 on, is 00h: eight bytes at a time, and the last four.
 fn is_blank(raw: &[u8]) -> bool
     requires { ⌜ length (now raw) ≡ 32 ⌝ }
-    ensures { λ r. ⌜ r ≡ blank (drop 5 (now (raw .entry))) ⌝ }
+    ensures { λ r. ⌜ r ≡ blank (drop 13 (now (raw .entry))) ⌝ }
 {
-    if words::eight_at(raw, 5) != 0 {
+    if eight_at(raw, 13) != 0 {
         return false;
     }
-    if words::eight_at(raw, 13) != 0 {
-        return false;
-    }
-    if words::eight_at(raw, 21) != 0 {
+    if eight_at(raw, 21) != 0 {
         return false;
     }
     words::four_at(raw, 28) == 0
@@ -115,7 +116,14 @@ fn read_with(holds: Holds, raw: &[u8]) -> Reading
     if !is_blank(raw) {
         return Reading::Broken(holds);
     }
-    Reading::Found(Slot::of(holds, active == 1, raw[2], raw[3], open == 1))
+    Reading::Found(Slot::of(
+        holds,
+        active == 1,
+        raw[2],
+        raw[3],
+        open == 1,
+        eight_at(raw, 5),
+    ))
 }
 
 // Reads any bytes: a slot, a broken record or an unknown kind.

@@ -3,6 +3,7 @@ use Prim.Native.Nat.{ℕ}
 use mathlib.Core.Bool.{Bool, true, false}
 use Rattle.chips.specs.declared.Chip.{Chip}
 use Rattle.chips.specs.Kinds.{facts}
+use Rattle.sets.specs.Sets.{defaultSet}
 use Rattle.slot.specs.declared.Holds.{Holds}
 use Rattle.slot.specs.declared.Holds.the-variants.{Empty, Card}
 use Rattle.slot.specs.declared.Slot.{Slot}
@@ -19,32 +20,39 @@ ownType (Card chip) = facts chip .selects
 
 -- ---- the changes
 -- a record of its fields, and a record with one field changed; every other change is made of these
-abbrev pub slotted : Holds → Bool → ℕ → ℕ → Bool → Slot
-slotted h on t p o = record { holds = h; active = on; selected = t; page = p; «open» = o }
+abbrev pub slotted : Holds → Bool → ℕ → ℕ → Bool → ℕ → Slot
+slotted h on t p o set = record { holds = h; active = on; selected = t; page = p; «open» = o; set = set }
 
 abbrev pub activeAs : Bool → Slot → Slot
-activeAs on s = slotted (s .holds) on (s .selected) (s .page) (s .«open»)
+activeAs on s = slotted (s .holds) on (s .selected) (s .page) (s .«open») (s .set)
 
 abbrev pub typeAs : ℕ → Slot → Slot
-typeAs t s = slotted (s .holds) (s .active) t (s .page) (s .«open»)
+typeAs t s = slotted (s .holds) (s .active) t (s .page) (s .«open») (s .set)
 
 abbrev pub pageAs : ℕ → Slot → Slot
-pageAs p s = slotted (s .holds) (s .active) (s .selected) p (s .«open»)
+pageAs p s = slotted (s .holds) (s .active) (s .selected) p (s .«open») (s .set)
 
 abbrev pub openAs : Bool → Slot → Slot
-openAs o s = slotted (s .holds) (s .active) (s .selected) (s .page) o
+openAs o s = slotted (s .holds) (s .active) (s .selected) (s .page) o (s .set)
 
--- "Insertion gives: inactive, no type, page 8, closed"
+abbrev pub setAs : ℕ → Slot → Slot
+setAs set s = slotted (s .holds) (s .active) (s .selected) (s .page) (s .«open») set
+
+-- "Insertion gives: inactive, no type, page 8, closed"; the default parameters return
 abbrev pub inserted : Chip → Slot
-inserted chip = slotted (Card chip) false 0 8 false
+inserted chip = slotted (Card chip) false 0 8 false defaultSet
 
--- "Removal always gives the empty sound slot"
+-- "Removal always gives the empty sound slot"; the default parameters return
 abbrev pub removed : Slot
-removed = slotted Empty false 0 8 false
+removed = slotted Empty false 0 8 false defaultSet
 
 -- "Power on: active, no type, closed"; "Power off: inactive, no type, closed. Page size survives both"
 abbrev pub powered : Bool → Slot → Slot
 powered on s = activeAs on (typeAs 0 (openAs false s))
+
+-- the default parameters return "on reset, power on, insertion and removal"
+abbrev pub defaulted : Slot → Slot
+defaulted s = setAs defaultSet s
 
 -- "A4: selects the type, closes"
 abbrev pub selecting : ℕ → Slot → Slot

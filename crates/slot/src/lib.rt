@@ -3,7 +3,7 @@
 
 use chips::Chip;
 ghost use mathlib.Core.Path.{_≡_};
-ghost use Rattle.slot.specs.Slots.{occupied, ownType, slotted, inserted, removed, powered, selecting, paged, openAs, opened, closed};
+ghost use Rattle.slot.specs.Slots.{occupied, ownType, slotted, inserted, removed, powered, selecting, paged, openAs, opened, closed, setAs, defaulted};
 
 // The slot holds nothing or a card of one kind; its image stays beside it.
 pub enum Holds {
@@ -19,19 +19,21 @@ pub struct Slot {
     pub selected: u8,
     // The reader page.
     pub page: u8,
+    // The parameters: a number that is read by crate sets.
+    pub set: usize,
 }
 
 // The empty sound slot, which a reader starts with.
 pub fn empty() -> Slot
     ensures { λ r. ⌜ r ≡ removed ⌝ }
 {
-    Slot::of(Holds::Empty, false, 0, 8, false)
+    Slot::of(Holds::Empty, false, 0, 8, false, sets::default_set())
 }
 
 impl Slot {
     // A record of its fields.
-    pub fn of(holds: Holds, active: bool, selected: u8, page: u8, open: bool) -> Slot
-        ensures { λ r. ⌜ r ≡ slotted holds active selected page «open» ⌝ }
+    pub fn of(holds: Holds, active: bool, selected: u8, page: u8, open: bool, set: usize) -> Slot
+        ensures { λ r. ⌜ r ≡ slotted holds active selected page «open» set ⌝ }
     {
         Slot {
             holds,
@@ -39,17 +41,18 @@ impl Slot {
             open,
             selected,
             page,
+            set,
         }
     }
 
     // ---- the changes: each method hands back the next record
 
-    // Inactive, no type, page 8, closed.
+    // Inactive, no type, page 8, closed, the default parameters.
     pub fn insert(self, chip: Chip) -> Slot
         ensures { λ r. ⌜ r ≡ inserted chip ⌝ }
     {
         let holds = Holds::Card(chip);
-        Slot::of(holds, false, 0, 8, false)
+        Slot::of(holds, false, 0, 8, false, sets::default_set())
     }
 
     // The empty sound slot.
@@ -59,7 +62,7 @@ impl Slot {
         empty()
     }
 
-    // Active or inactive, no type, closed. The page survives.
+    // Active or inactive, no type, closed. The page and the parameters survive.
     pub fn power(mut self, on: bool) -> Slot
         ensures { λ r. ⌜ r ≡ powered on self ⌝ }
     {
@@ -106,6 +109,21 @@ impl Slot {
         ensures { λ r. ⌜ r ≡ closed self ⌝ }
     {
         self.set_open(false)
+    }
+
+    // The parameters.
+    pub fn with_set(mut self, set: usize) -> Slot
+        ensures { λ r. ⌜ r ≡ setAs set self ⌝ }
+    {
+        self.set = set;
+        self
+    }
+
+    // The default parameters.
+    pub fn reset_set(self) -> Slot
+        ensures { λ r. ⌜ r ≡ defaulted self ⌝ }
+    {
+        self.with_set(sets::default_set())
     }
 
     // ---- what it holds

@@ -1,4 +1,4 @@
--- Laws of a sound slot: the five conditions taken apart, and that each change of the record keeps them.
+-- Laws of a sound slot: the six conditions taken apart, and that each change of the record keeps them.
 use mathlib.Core.Path.{_≡_, refl, sym, ap, _∙_}
 use mathlib.Core.List.{List}
 use mathlib.Core.Bool.{true, false, not, true≢false, false≢true}
@@ -8,9 +8,13 @@ use borrow.Author.Tests.{eqb-true, eq-eqb, not-true}
 use Rattle.words.specs.Choice.{_and_, _or_, _means_, _is_}
 use Rattle.words.proofs.Choices.{and-true, or-true, means-true, both, or-left, or-right, meaning}
 use Rattle.chips.specs.declared.Chip.{Chip}
+use Rattle.sets.specs.Sets.{defaultSet, takes}
+use Rattle.sets.proofs.SetLaws.{default-taken}
+use Rattle.slot.specs.declared.Holds.{Holds}
+use Rattle.slot.specs.declared.Holds.the-variants.{Empty, Card}
 use Rattle.slot.specs.declared.Slot.{Slot}
-use Rattle.slot.specs.Slots.{occupied, ownType, inserted, removed, powered, selecting, paged, opened, closed}
-use Rattle.sound.specs.Sound.{fullCode, pageSize, emptySound, idleSound, typeSound, openSound, sound}
+use Rattle.slot.specs.Slots.{occupied, ownType, inserted, removed, powered, selecting, paged, opened, closed, setAs, defaulted}
+use Rattle.sound.specs.Sound.{fullCode, pageSize, emptySound, idleSound, typeSound, openSound, setSound, sound}
 
 -- "It is sound when", as facts
 pub record Sound (s : Slot) (image : List ℕ) : Type 0 where
@@ -19,6 +23,12 @@ pub record Sound (s : Slot) (image : List ℕ) : Type 0 where
   pub idle : s .active ≡ false → (s .selected ≡ 0) × (s .«open» ≡ false)
   pub own : (s .selected ≡ 0) ⊎ (s .selected ≡ ownType (s .holds))
   pub sure : s .«open» ≡ true → (fullCode (s .holds) image ≡ true) × (s .selected ≡ ownType (s .holds))
+  pub set : setSound (s .holds) (s .set) ≡ true
+
+-- the default is sound beside every card, and with none
+pub default-sound : (h : Holds) → setSound h defaultSet ≡ true
+unfolding setSound
+default-sound h = both default-taken (meaning _ (λ _. eq-eqb defaultSet defaultSet refl))
 
 module _ (s : Slot) (image : List ℕ) where
   own-parts : (s .selected is 0 ≡ true) ⊎ (s .selected is ownType (s .holds) ≡ true) → (s .selected ≡ 0) ⊎ (s .selected ≡ ownType (s .holds))
@@ -36,12 +46,14 @@ module _ (s : Slot) (image : List ℕ) where
       let t2 = and-true _ _ (t1 .1) in
       let t3 = and-true _ _ (t2 .1) in
       let t4 = and-true _ _ (t3 .1) in
+      let t5 = and-true _ _ (t4 .1) in
       record {
         sized = t1 .0;
         empty = λ h. let u = and-true _ _ (means-true _ _ (t2 .0) (ap not h)) in (not-true _ (u .0), eqb-true _ _ (u .1));
         idle = λ h. let u = and-true _ _ (means-true _ _ (t3 .0) (ap not h)) in (eqb-true _ _ (u .0), not-true _ (u .1));
         own = own-parts (or-true _ _ (t4 .0));
-        sure = λ h. let u = and-true _ _ (means-true _ _ (t4 .1) h) in (u .0, eqb-true _ _ (u .1));
+        sure = λ h. let u = and-true _ _ (means-true _ _ (t5 .0) h) in (u .0, eqb-true _ _ (u .1));
+        set = t5 .1;
       }
 
   pub sound-whole : Sound s image → sound s image ≡ true
@@ -51,11 +63,12 @@ module _ (s : Slot) (image : List ℕ) where
       (both (meaning _ (λ h. let u = r .empty (not-true _ h) in both (ap not (u .0)) (eq-eqb _ _ (u .1))))
       (both (meaning _ (λ h. let u = r .idle (not-true _ h) in both (eq-eqb _ _ (u .0)) (ap not (u .1))))
       (both (own-whole (r .own))
-      (meaning _ (λ h. let u = r .sure h in both (u .0) (eq-eqb _ _ (u .1)))))))
+      (both (meaning _ (λ h. let u = r .sure h in both (u .0) (eq-eqb _ _ (u .1))))
+      (r .set)))))
 
   -- ---- the changes
   pub image-sound : (image′ : List ℕ) → fullCode (s .holds) image′ ≡ fullCode (s .holds) image → Sound s image → Sound s image′
-  image-sound image′ e r = record { sized = r .sized; empty = r .empty; idle = r .idle; own = r .own; sure = λ h. (e ∙ r .sure h .0, r .sure h .1) }
+  image-sound image′ e r = record { sized = r .sized; empty = r .empty; idle = r .idle; own = r .own; sure = λ h. (e ∙ r .sure h .0, r .sure h .1); set = r .set }
 
   pub on-sound : occupied (s .holds) ≡ true → Sound s image → Sound (powered true s) image
   on-sound e r = record {
@@ -64,33 +77,49 @@ module _ (s : Slot) (image : List ℕ) where
     idle = λ h. absurd (true≢false h);
     own = inl refl;
     sure = λ h. absurd (false≢true h);
+    set = r .set;
   }
 
   pub off-sound : Sound s image → Sound (powered false s) image
-  off-sound r = record { sized = r .sized; empty = λ h. (refl, r .empty h .1); idle = λ h. (refl, refl); own = inl refl; sure = λ h. absurd (false≢true h) }
+  off-sound r = record { sized = r .sized; empty = λ h. (refl, r .empty h .1); idle = λ h. (refl, refl); own = inl refl; sure = λ h. absurd (false≢true h); set = r .set }
 
   module _ (on : s .active ≡ true) (image′ : List ℕ) (r : Sound s image) where
     awake : {A : Type 0} → s .active ≡ false → A
     awake h = absurd (true≢false (sym on ∙ h))
 
     pub selecting-sound : Sound (selecting (ownType (s .holds)) s) image′
-    selecting-sound = record { sized = r .sized; empty = r .empty; idle = awake; own = inr refl; sure = λ h. absurd (false≢true h) }
+    selecting-sound = record { sized = r .sized; empty = r .empty; idle = awake; own = inr refl; sure = λ h. absurd (false≢true h); set = r .set }
 
     pub closed-sound : Sound (closed s) image′
-    closed-sound = record { sized = r .sized; empty = r .empty; idle = awake; own = r .own; sure = λ h. absurd (false≢true h) }
+    closed-sound = record { sized = r .sized; empty = r .empty; idle = awake; own = r .own; sure = λ h. absurd (false≢true h); set = r .set }
 
     pub opened-sound : fullCode (s .holds) image′ ≡ true → s .selected ≡ ownType (s .holds) → Sound (opened s) image′
-    opened-sound e t = record { sized = r .sized; empty = r .empty; idle = awake; own = inr t; sure = λ h. (e, t) }
+    opened-sound e t = record { sized = r .sized; empty = r .empty; idle = awake; own = inr t; sure = λ h. (e, t); set = r .set }
 
   pub paged-sound : (p : ℕ) → pageSize p ≡ true → occupied (s .holds) ≡ true → Sound s image → Sound (paged p s) image
-  paged-sound p e h r = record { sized = e; empty = λ k. absurd (true≢false (sym h ∙ k)); idle = r .idle; own = r .own; sure = r .sure }
+  paged-sound p e h r = record { sized = e; empty = λ k. absurd (true≢false (sym h ∙ k)); idle = r .idle; own = r .own; sure = r .sure; set = r .set }
+
+  -- a set that 61h takes, where a card is in; and the default
+  pub set-sound : (set : ℕ) → takes set ≡ true → occupied (s .holds) ≡ true → Sound s image → Sound (setAs set s) image
+  unfolding setSound
+  set-sound set e h r = record {
+    sized = r .sized;
+    empty = r .empty;
+    idle = r .idle;
+    own = r .own;
+    sure = r .sure;
+    set = both e (meaning _ (λ k. absurd (true≢false (sym h ∙ not-true _ k))));
+  }
+
+  pub defaulted-sound : Sound s image → Sound (defaulted s) image
+  defaulted-sound r = record { sized = r .sized; empty = r .empty; idle = r .idle; own = r .own; sure = r .sure; set = default-sound (s .holds) }
 
 -- a card just put in, and a slot with none, are sound beside every image
 module _ (image : List ℕ) where
   pub inserted-sound : (chip : Chip) → sound (inserted chip) image ≡ true
   unfolding sound emptySound idleSound typeSound openSound pageSize _and_ _or_ _means_
-  inserted-sound chip = refl
+  inserted-sound chip = default-sound (Card chip)
 
   pub removed-sound : sound removed image ≡ true
   unfolding sound emptySound idleSound typeSound openSound pageSize _and_ _or_ _means_
-  removed-sound = refl
+  removed-sound = default-sound Empty

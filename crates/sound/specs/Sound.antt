@@ -5,6 +5,7 @@ use mathlib.Core.List.{List}
 use Rattle.words.specs.Choice.{_and_, _or_, _means_, _is_}
 use Rattle.words.specs.Bytes.{byte}
 use Rattle.chips.specs.Kinds.{facts}
+use Rattle.sets.specs.Sets.{defaultSet, takes}
 use Rattle.card.specs.Images.{isCard}
 use Rattle.slot.specs.declared.Holds.{Holds}
 use Rattle.slot.specs.declared.Holds.the-variants.{Empty, Card}
@@ -41,6 +42,10 @@ typeSound s = s .selected is 0 or s .selected is ownType (s .holds)
 unfoldable pub openSound : Slot → List ℕ → Bool
 openSound s image = s .«open» means fullCode (s .holds) image and s .selected is ownType (s .holds)
 
--- "It is sound when": all five hold.
+-- "number 4 is also given when 61h would not take the stored set, or with no card it is not the default"
+unfoldable pub setSound : Holds → ℕ → Bool
+setSound h set = takes set and (not (occupied h) means set is defaultSet)
+
+-- "It is sound when": all six hold.
 unfoldable pub sound : Slot → List ℕ → Bool
-sound s image = pageSize (s .page) and emptySound s and idleSound s and typeSound s and openSound s image
+sound s image = pageSize (s .page) and emptySound s and idleSound s and typeSound s and openSound s image and setSound (s .holds) (s .set)

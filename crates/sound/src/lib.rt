@@ -5,7 +5,7 @@ use slot::Holds;
 use slot::Slot;
 use words::byte_at;
 ghost use mathlib.Core.Path.{_≡_};
-ghost use Rattle.sound.specs.Sound.{fullCode, imageIsCard, pageSize, emptySound, idleSound, typeSound, openSound, sound};
+ghost use Rattle.sound.specs.Sound.{fullCode, imageIsCard, pageSize, emptySound, idleSound, typeSound, openSound, setSound, sound};
 
 // Whether the card is a code card with a full counter.
 fn full_code(slot: Slot, image: &[u8]) -> bool
@@ -81,6 +81,19 @@ fn open_sound(slot: Slot, image: &[u8]) -> bool
     slot.selected == slot.own_type()
 }
 
+// SetParameters would take the parameters; with no card they are the default.
+fn set_sound(slot: Slot) -> bool
+    ensures { λ r. ⌜ r ≡ setSound (slot .holds) (slot .set) ⌝ }
+{
+    if slot.set == sets::default_set() {
+        return true;
+    }
+    if !slot.has_card() {
+        return false;
+    }
+    sets::is_taken(slot.set)
+}
+
 // Whether the record is sound, beside the image of its card.
 pub fn is_sound(slot: Slot, image: &[u8]) -> bool
     ensures { λ r. ⌜ r ≡ sound slot (now (image .entry)) ⌝ }
@@ -97,7 +110,10 @@ pub fn is_sound(slot: Slot, image: &[u8]) -> bool
     if !type_sound(slot) {
         return false;
     }
-    open_sound(slot, image)
+    if !open_sound(slot, image) {
+        return false;
+    }
+    set_sound(slot)
 }
 
 // Whether a number is a reader page.

@@ -106,6 +106,11 @@ unfolding _and_
 and-end true = refl
 and-end false = refl
 
+pub or-end : (b : Bool) → b or false ≡ b
+unfolding _or_
+or-end true = refl
+or-end false = refl
+
 -- a second test that fails
 pub and-last : (a : Bool) {b : Bool} → b ≡ false → a and b ≡ false
 unfolding _and_

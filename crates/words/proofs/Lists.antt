@@ -138,6 +138,15 @@ series-part f s k (suc n) l h e =
     ap f p ∙ e (suc j) (omega arith) ∙ ap (byte l) q) in
     ap₂ (λ (x : ℕ) (t : List ℕ). x ∷ t) here later ∙ ap (take (suc n)) (sym (drop-cons l k 0 (omega arith)))
 
+-- byte j of a run
+pub series-at : (f : ℕ → ℕ) (k n j : ℕ) → j < n → byte (series f k n) j ≡ f (k + j)
+unfolding series
+series-at f k zero j h = absurd (omega arith)
+series-at f k (suc n) zero h = ap f (sym (add-zero k))
+series-at f k (suc n) (suc j) h =
+    let p : suc k + j ≡ k + suc j = omega arith in
+    series-at f (suc k) n j (omega arith) ∙ ap f p
+
 -- ---- the tail `&s[k..]`, as the borrow checker has it: `take (length s - k) (drop k s)`
 pub tail-is : (k : ℕ) (a : List ℕ) → take (length a - k) (drop k a) ≡ drop k a
 tail-is k a = take-all (length a - k) (drop k a) (omega (arith, length-drop k a))

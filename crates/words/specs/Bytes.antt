@@ -1,5 +1,5 @@
 -- Words of all rules: bytes, numbers in bytes, and what a buffer holds once bytes are laid into it.
-use Prim.Native.Nat.{ℕ, zero, suc, _+_, _*_, _/_, _%_}
+use Prim.Native.Nat.{ℕ, zero, suc, _+_, _*_, _/_, _%_, _<_}
 use mathlib.Core.Bool.{Bool, true, false}
 use mathlib.Core.List.{List, [], _∷_, _++_}
 use lib.ListN.{length, getD, drop}
@@ -8,6 +8,10 @@ use Rattle.words.specs.Choice.{_and_, _is_}
 -- byte k of a list, 0 beyond its end
 abbrev pub byte : List ℕ → ℕ → ℕ
 byte l k = getD l k 0
+
+-- a list of bytes, as every lent slice is one
+pub record AllBytes (l : List ℕ) : Type 0 where
+  pub fits : (k : ℕ) → byte l k < 256
 
 -- two lists are the same, byte by byte
 unfoldable pub same : List ℕ → List ℕ → Bool
@@ -26,6 +30,19 @@ fourAt l k = byte l k + 256 * byte l (k + 1) + 65536 * byte l (k + 2) + 16777216
 -- and eight bytes, low first
 unfoldable pub eightAt : List ℕ → ℕ → ℕ
 eightAt l k = fourAt l k + 4294967296 * fourAt l (k + 4)
+
+-- the number that bytes make, low first; byte k of a number; and a number in k + 1 bytes, the last of which is what is left
+unfoldable pub numberOf : List ℕ → ℕ
+numberOf [] = 0
+numberOf (x ∷ l) = x % 256 + 256 * numberOf l
+
+unfoldable pub part : ℕ → ℕ → ℕ
+part n zero = n % 256
+part n (suc k) = part (n / 256) k
+
+unfoldable pub lowFirst : ℕ → ℕ → List ℕ
+lowFirst zero n = n ∷ []
+lowFirst (suc k) n = n % 256 ∷ lowFirst k (n / 256)
 
 -- bytes laid over the front of a buffer: what is past them keeps its value
 unfoldable pub over : List ℕ → List ℕ → List ℕ

@@ -4,7 +4,8 @@
 ghost use mathlib.Core.Path.{_≡_};
 ghost use Prim.Native.Nat.{_+_, _≤_, _<_, min};
 ghost use lib.ListN.{length, set};
-ghost use Rattle.words.specs.Bytes.{byte, same, fourAt, eightAt, over};
+ghost use lib.Seq.{sets};
+ghost use Rattle.words.specs.Bytes.{byte, same, fourAt, eightAt, part, lowFirst, over};
 
 // The smallest answer buffer that is not turned down.
 pub const ROOM: usize = 271;
@@ -55,6 +56,19 @@ pub fn eight_at(s: &[u8], k: usize) -> usize
     four_at(s, k) + 4294967296 * four_at(s, k + 4)
 }
 
+// Byte k of a number, low first.
+pub fn part(n: usize, k: usize) -> u8
+    ensures { λ r. ⌜ r ≡ part n k ⌝ }
+{
+    let mut left = n;
+    let mut i = 0;
+    while i < k {
+        left = left / 256;
+        i += 1;
+    }
+    (left % 256) as u8
+}
+
 // Whether two slices of one length hold the same bytes.
 pub fn same_bytes(a: &[u8], b: &[u8]) -> bool
     requires { ⌜ length (now a) ≡ length (now b) ⌝ }
@@ -90,4 +104,19 @@ pub fn put_two(out: &mut [u8], n: usize, high: u8, low: u8) -> usize
     out[n] = high;
     out[n + 1] = low;
     n + 2
+}
+
+// Puts a number in eight bytes from k on, low first.
+pub fn put_eight(out: &mut [u8], k: usize, n: usize)
+    requires { ⌜ k + 8 ≤ length (now out) ⌝ }
+    ensures { λ _. ⌜ now (out .exit) ≡ sets (now (out .entry)) k (lowFirst 7 n) ⌝ }
+{
+    let mut left = n;
+    let mut i = 0;
+    while i < 7 {
+        out[k + i] = (left % 256) as u8;
+        left = left / 256;
+        i += 1;
+    }
+    out[k + 7] = left as u8;
 }

@@ -27,7 +27,7 @@ slot-self : (s : Slot) → likeSlot s s ≡ true
 unfolding likeSlot
 slot-self s =
     both (eq-eqb (kindOf (s .holds)) _ refl)
-    (both (beq-self (s .active)) (both (eq-eqb (s .selected) _ refl) (both (eq-eqb (s .page) _ refl) (beq-self (s .«open»)))))
+    (both (beq-self (s .active)) (both (eq-eqb (s .selected) _ refl) (both (eq-eqb (s .page) _ refl) (both (beq-self (s .«open»)) (eq-eqb (s .set) _ refl)))))
 
 pub like-slot : {s t : Slot} → s ≡ t → likeSlot s t ≡ true
 like-slot {s} e = subst (λ (t : Slot). likeSlot s t ≡ true) e (slot-self s)
@@ -92,6 +92,6 @@ all-caught = refl
 pub all-refuted : EachRefuted wrongReaders
 all-refuted = each-refuted 0 wrongReaders all-caught
 
-pub row-count : length wrongReaders ≡ 1356
+pub row-count : length wrongReaders ≡ 1478
 unfolding rules wrongReaders
 row-count = refl

@@ -1,17 +1,19 @@
 -- Our reader with a part replaced (specs/Wrong) is our reader where the part put in is the rules' own. So a wrong reader that is made this way is
 -- wrong by the part that its definition names, and by nothing else.
-use Prim.Native.Nat.{ℕ}
+use Prim.Native.Nat.{ℕ, _-_}
 use mathlib.Core.Path.{_≡_, refl, sym, ap, _∙_, subst⁻¹}
-use mathlib.Core.Bool.{false, true≢false}
+use mathlib.Core.Bool.{Bool, true, false, not, true≢false}
 use mathlib.Core.List.{List, [], _∷_}
-use borrow.Author.Tests.{not-true}
-use Rattle.words.specs.Choice.{_⇒_⁏_, _and_, _is_}
-use Rattle.words.proofs.Choices.{either, past, rest, and-true, same-choice, never}
+use lib.ListN.{length}
+use borrow.Author.Tests.{eqb-true, not-true, not-false}
+use Rattle.words.specs.Choice.{_⇒_⁏_, _and_, _or_, _is_, _isnt_}
+use Rattle.words.proofs.Choices.{either, past, first, rest, and-true, same-choice, never}
 use Rattle.chips.specs.declared.Chip.{Chip}
 use Rattle.chips.specs.declared.Known.{Known}
 use Rattle.chips.specs.declared.Known.the-variants.{Is, Unknown}
 use Rattle.chips.specs.declared.Facts.{Facts}
 use Rattle.chips.specs.Kinds.{facts, chipOf}
+use Rattle.sets.specs.Sets.{faultAt, setOf}
 use Rattle.slot.specs.declared.Holds.{Holds}
 use Rattle.slot.specs.declared.Holds.the-variants.{Empty, Card}
 use Rattle.slot.specs.declared.Slot.{Slot}
@@ -22,14 +24,14 @@ use Rattle.steps.specs.declared.Order.{Order}
 use Rattle.steps.specs.Steps.{body, order}
 use Rattle.sound.specs.Sound.{imageIsCard, sound}
 use Rattle.faults.specs.declared.Fault.{Fault}
-use Rattle.faults.specs.Faults.{Transfer, typeByte, apdu, requestOf, faultOf}
+use Rattle.faults.specs.Faults.{Request, SetParameters, Transfer, typeByte, dwLength, bSlot, apdu, requestOf, dataFits, badField, ready, faultOf}
 use Rattle.orders.specs.Orders.{Deed, performed, commanded}
 use Rattle.frame.specs.declared.Refusal.{Refusal}
 use Rattle.frame.specs.Exchange.{served, Outcome, turnedDown, answered, replied, reply, exchange, insertedAs, insertion}
 use Rattle.reader.specs.Runs.{Sent, sending, run}
 use Rattle.promise.specs.Sequences.{sentWith}
 use Rattle.promise.proofs.Reached.{transfers-is, transfer-does}
-use Rattle.wrong.specs.Wrong.{Reader, rowed, oneByOne, cardIn, taking, vetting, faulting, upon, commandingOn, commanding, ordering, sooner, letting, barring}
+use Rattle.wrong.specs.Wrong.{Reader, rowed, oneByOne, cardIn, taking, vetting, faulting, early, fielding, upon, commandingOn, commanding, ordering, sooner, letting, barring}
 use Rattle.wrong.specs.Wrong.{doing, atWrong, atRight, insertsAs, insertsBy, uponInsert}
 
 -- a reader gives what ours gives, at every input
@@ -67,6 +69,41 @@ faulting-ours s i m room = go (tested s i m room)
     go (image e) = refl
     go (record′ e) = refl
     go passed = refl
+
+-- where the byte that is wrong is the rules', so is the fault
+module _ (s : Slot) (m : List ℕ) where
+  abbrev late : Request → Fault
+  late r =
+      let at = faultAt (setOf m) (length m - 10) in
+      at isnt 0 ⇒ Fault.Field at ⁏ not (ready r s) ⇒ Fault.Card ⁏ Fault.Clear
+
+  abbrev Found : Fault → Type 0
+  Found f = (early f ⇒ f ⁏ late SetParameters) ≡ f
+
+  found-set : Found (faultOf SetParameters s m)
+  unfolding faultOf _⇒_⁏_
+  found-set =
+      past Found (dwLength m isnt (length m - 10)) refl (λ _.
+      past Found (not (dataFits SetParameters (dwLength m))) refl (λ _.
+      past Found (bSlot m isnt 0) refl (λ _.
+      either Found (badField SetParameters m isnt 0) (λ e. first _ _ e) (λ e.
+      either Found (not (ready SetParameters s)) (λ c. rest _ _ e ∙ first _ _ c) (λ c. rest _ _ e ∙ rest _ _ c)))))
+
+  abbrev chosen : Bool → Request → Fault
+  chosen b r = b or early (faultOf r s m) ⇒ faultOf r s m ⁏ late r
+
+  found-fault : (b : Bool) → typeByte m isnt 0x61 ≡ b → chosen b (requestOf (typeByte m)) ≡ faultOf (requestOf (typeByte m)) s m
+  unfolding requestOf _or_ _⇒_⁏_
+  found-fault true h = refl
+  found-fault false h =
+      subst⁻¹ (λ (r : Request). chosen false r ≡ faultOf r s m) (ap requestOf (eqb-true (typeByte m) 0x61 (not-false _ h))) found-set
+
+pub fielding-ours : Ours (fielding faultAt)
+unfolding fielding faulting
+fielding-ours s i m room =
+    ap (λ (f : Fault). exchange s i m room .number is 0 ⇒ replied (requestOf (typeByte m)) f s i m ⁏ exchange s i m room)
+    (found-fault s m (typeByte m isnt 0x61) refl)
+    ∙ faulting-ours s i m room
 
 pub vetting-ours : Ours (vetting sound)
 unfolding vetting reply replied _and_ _⇒_⁏_

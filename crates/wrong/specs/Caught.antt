@@ -23,6 +23,7 @@ likeSlot s t =
     and s .selected is t .selected
     and s .page is t .page
     and Bool·beq (s .«open») (t .«open»)
+    and s .set is t .set
 
 unfoldable pub likeOutcome : Outcome → Outcome → Bool
 likeOutcome o p =

@@ -4,11 +4,13 @@ pub mod WrongReaders
 pub mod WrongDowns
 pub mod WrongAnswers
 pub mod WrongFaults
+pub mod WrongParams
 pub mod WrongSteps
 pub mod WrongCommands
 pub mod Inputs
 pub mod MessageRows
 pub mod CommandRows
+pub mod ParamRows
 pub mod Witnesses
 pub mod WrongRecords
 pub mod WrongPrinters

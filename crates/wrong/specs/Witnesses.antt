@@ -15,6 +15,7 @@ use Rattle.wrong.specs.WrongCommands.{upToUnequal, cutFrom, backwards}
 use Rattle.wrong.specs.Inputs.{shut, memI2c, plain, ask, on}
 use Rattle.wrong.specs.MessageRows.{uselessRows, trapRows, buildRows, downRows, insertionRows, removalRows, answerRows, faultRows, powerRows}
 use Rattle.wrong.specs.CommandRows.{stepOrderRows, stepRows1to5, stepRows6, stepRows7, stepRows8to10, wordRows, commandRows, pageRows, codeRows, numberRows, kindRows}
+use Rattle.wrong.specs.ParamRows.{paramRows, fiRows, diRows, goodFiRows, goodDiRows}
 use Rattle.wrong.specs.WrongFaults as faults
 use Rattle.wrong.specs.WrongSteps as steps
 
@@ -27,9 +28,9 @@ from k n = series (λ (j : ℕ). j) k n
 abbrev pub slotRows : List Witness
 slotRows = map (λ (n : ℕ). on (faults.takesSlot n) removed [] (set (plain 0x65) 5 n)) (from 1 255)
 
--- each type but 62h, 63h, 65h and 6Fh, taken for slot status
+-- each type but 61h, 62h, 63h, 65h, 6Ch, 6Dh and 6Fh, taken for slot status
 abbrev pub typeRows : List Witness
-typeRows = map (λ (n : ℕ). on (faults.takesType n) removed [] (plain n)) (from 0 0x62 ++ from 0x64 1 ++ from 0x66 9 ++ from 0x70 0x90)
+typeRows = map (λ (n : ℕ). on (faults.takesType n) removed [] (plain n)) (from 0 0x61 ++ from 0x64 1 ++ from 0x66 6 ++ from 0x6E 1 ++ from 0x70 0x90)
 
 -- bPowerSelect 4 to FFh, each taken
 abbrev pub selectRows : List Witness
@@ -53,6 +54,7 @@ wrongReaders =
     ++ answerRows
     ++ faultRows
     ++ powerRows
+    ++ paramRows
     ++ stepOrderRows
     ++ stepRows1to5
     ++ stepRows6
@@ -68,6 +70,10 @@ wrongReaders =
     ++ typeRows
     ++ selectRows
     ++ insRows
+    ++ fiRows
+    ++ diRows
+    ++ goodFiRows
+    ++ goodDiRows
 
 -- the table and its words at once, for what is proved by computing them
 unfoldable pub witnesses : ℕ

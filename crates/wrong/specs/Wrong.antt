@@ -1,15 +1,16 @@
 -- Wrong readers: what one is, and our reader with one part put wrong. A wrong reader is a definition as short as its fault is in words.
-use Prim.Native.Nat.{ℕ}
-use mathlib.Core.Bool.{Bool}
+use Prim.Native.Nat.{ℕ, _-_}
+use mathlib.Core.Bool.{Bool, true, false, not}
 use mathlib.Core.List.{List, [], _∷_, _++_}
 use lib.ListN.{length, take, drop, set}
-use Rattle.words.specs.Choice.{_⇒_⁏_, _and_, _is_}
+use Rattle.words.specs.Choice.{_⇒_⁏_, _and_, _or_, _is_, _isnt_}
 use Rattle.words.specs.Bytes.{byte, same, fourBytes}
 use Rattle.codes.specs.Codes.{codeIn}
 use Rattle.chips.specs.declared.Known.{Known}
 use Rattle.chips.specs.declared.Known.the-variants.{Is, Unknown}
 use Rattle.chips.specs.declared.Facts.{Facts}
 use Rattle.chips.specs.Kinds.{facts, i2c, chipOf}
+use Rattle.sets.specs.Sets.{setOf}
 use Rattle.slot.specs.declared.Holds.{Holds}
 use Rattle.slot.specs.declared.Holds.the-variants.{Empty, Card}
 use Rattle.slot.specs.declared.Slot.{Slot}
@@ -19,7 +20,7 @@ use Rattle.steps.specs.declared.Order.{Order}
 use Rattle.steps.specs.Steps.{wordOf, insOf, place, p3, body, ordered, order}
 use Rattle.sound.specs.Sound.{sound}
 use Rattle.faults.specs.declared.Fault.{Fault}
-use Rattle.faults.specs.Faults.{Request, Transfer, typeByte, apdu, requestOf}
+use Rattle.faults.specs.Faults.{Request, Transfer, typeByte, apdu, requestOf, ready, faultOf}
 use Rattle.orders.specs.Orders.{Deed, performed, commanded}
 use Rattle.frame.specs.declared.Refusal.{Refusal}
 use Rattle.frame.specs.Exchange.{Outcome, turnedDown, answered, replied, reply, exchange, insertion}
@@ -103,6 +104,25 @@ faulting fault s image m room =
     let o = exchange s image m room in
     o .number is 0 ⇒ replied (requestOf (typeByte m)) (fault (requestOf (typeByte m)) s m) s image m
     ⁏ o
+
+-- a fault that is found before the fields of a message are looked at
+abbrev pub early : Fault → Bool
+early Fault.Clear = false
+early Fault.Unknown = true
+early Fault.Length = true
+early Fault.OtherSlot = true
+early (Fault.Field at) = false
+early Fault.Card = false
+
+-- the byte of a SetParameters message that is wrong is found by `finds`, of its set and the length of its data
+unfoldable pub fielding : (ℕ → ℕ → ℕ) → Reader
+fielding finds = faulting λ r s m.
+    let f = faultOf r s m in
+    let at = finds (setOf m) (length m - 10) in
+    typeByte m isnt 0x61 or early f ⇒ f
+    ⁏ at isnt 0 ⇒ Fault.Field at
+    ⁏ not (ready r s) ⇒ Fault.Card
+    ⁏ Fault.Clear
 
 -- a message of a type that succeeded has something else come of it
 unfoldable pub upon : ℕ → (Slot → List ℕ → Outcome → Outcome) → Reader
@@ -236,5 +256,5 @@ uponInsert change s kind image = let o = insertion s kind image in o .number is 
 
 -- all of these at once, for what is proved by computing them
 unfoldable pub parts : ℕ
-unfolding oneByOne taking vetting faulting upon commandingOn sooner letting barring doing atWrong atRight insertsAs uponInsert
+unfolding oneByOne taking vetting faulting fielding upon commandingOn sooner letting barring doing atWrong atRight insertsAs uponInsert
 parts = 0

@@ -11,8 +11,9 @@ use Rattle.chips.specs.declared.Known.{Known}
 use Rattle.chips.specs.declared.Known.the-variants.{Is, Unknown}
 use Rattle.chips.specs.declared.Facts.{Facts}
 use Rattle.chips.specs.Kinds.{chipOf}
+use Rattle.slot.specs.declared.Slot.{Slot}
 use Rattle.slot.specs.Slots.{occupied, ownType, removed, powered, selecting, paged, opened, closed}
-use Rattle.sound.specs.Sound.{fullCode, imageIsCard, pageSize, emptySound, idleSound, typeSound, openSound, sound}
+use Rattle.sound.specs.Sound.{fullCode, imageIsCard, pageSize, emptySound, idleSound, typeSound, openSound, setSound, sound}
 use Rattle.frame.specs.declared.Refusal.{Refusal}
 use Rattle.frame.specs.Exchange.{turnedDown, exchange, insertion}
 use Rattle.wrong.specs.Wrong.{Reader, Inserter, Remover, numbering, saying, slotting, imaging, cardIn, taking, vetting, insertsBy, uponInsert}
@@ -68,56 +69,59 @@ looksAtNothing s image m room =
     ⁏ o
 
 -- ---- number 4, clause by clause: soundness without that clause. "Inactive means closed" cannot be missed alone: an open slot needs its type.
+abbrev pub setIs : Slot → Bool
+setIs s = setSound (s .holds) (s .set)
+
 -- lets any page size through
 abbrev pub anyPage : Reader
-anyPage = vetting λ s image. emptySound s and idleSound s and typeSound s and openSound s image
+anyPage = vetting λ s image. emptySound s and idleSound s and typeSound s and openSound s image and setIs s
 
 -- lets an empty slot through that is active
 abbrev pub emptyActive : Reader
 emptyActive = vetting λ s image.
-    pageSize (s .page) and (occupied (s .holds) or s .page is 8) and idleSound s and typeSound s and openSound s image
+    pageSize (s .page) and (occupied (s .holds) or s .page is 8) and idleSound s and typeSound s and openSound s image and setIs s
 
 -- lets an empty slot through whose page is not 8
 abbrev pub emptyPaged : Reader
 emptyPaged = vetting λ s image.
-    pageSize (s .page) and (occupied (s .holds) or not (s .active)) and idleSound s and typeSound s and openSound s image
+    pageSize (s .page) and (occupied (s .holds) or not (s .active)) and idleSound s and typeSound s and openSound s image and setIs s
 
 -- lets an inactive slot through that has a type
 abbrev pub idleTyped : Reader
 idleTyped = vetting λ s image.
-    pageSize (s .page) and emptySound s and (s .active or not (s .«open»)) and typeSound s and openSound s image
+    pageSize (s .page) and emptySound s and (s .active or not (s .«open»)) and typeSound s and openSound s image and setIs s
 
 -- lets an inactive slot through that has a type and is open
 abbrev pub idleOpen : Reader
-idleOpen = vetting λ s image. pageSize (s .page) and emptySound s and typeSound s and openSound s image
+idleOpen = vetting λ s image. pageSize (s .page) and emptySound s and typeSound s and openSound s image and setIs s
 
 -- lets a selected type through that is not the kind's own
 abbrev pub otherType : Reader
-otherType = vetting λ s image. pageSize (s .page) and emptySound s and idleSound s and openSound s image
+otherType = vetting λ s image. pageSize (s .page) and emptySound s and idleSound s and openSound s image and setIs s
 
 -- lets a card through that is open and no code card
 abbrev pub openPlain : Reader
 openPlain = vetting λ s image.
     pageSize (s .page) and emptySound s and idleSound s and typeSound s
-    and (s .«open» means (fullCode (s .holds) image or not (cardIn (s .holds) .coded)) and s .selected is ownType (s .holds))
+    and (s .«open» means (fullCode (s .holds) image or not (cardIn (s .holds) .coded)) and s .selected is ownType (s .holds)) and setIs s
 
 -- lets a code card through that is open with no type
 abbrev pub openUntyped : Reader
 openUntyped = vetting λ s image.
-    pageSize (s .page) and emptySound s and idleSound s and typeSound s and (s .«open» means fullCode (s .holds) image)
+    pageSize (s .page) and emptySound s and idleSound s and typeSound s and (s .«open» means fullCode (s .holds) image) and setIs s
 
 -- lets a code card through that is open with a counter that is not full
 abbrev pub openSpent : Reader
 openSpent = vetting λ s image.
     pageSize (s .page) and emptySound s and idleSound s and typeSound s
-    and (s .«open» means cardIn (s .holds) .coded and s .selected is ownType (s .holds))
+    and (s .«open» means cardIn (s .holds) .coded and s .selected is ownType (s .holds)) and setIs s
 
 -- lets a code card through that is open where the byte before its counter is full
 abbrev pub openBefore : Reader
 openBefore = vetting λ s image.
     pageSize (s .page) and emptySound s and idleSound s and typeSound s
     and (s .«open» means cardIn (s .holds) .coded and s .selected is ownType (s .holds)
-    and byte image (cardIn (s .holds) .counter - 1) is cardIn (s .holds) .full)
+    and byte image (cardIn (s .holds) .counter - 1) is cardIn (s .holds) .full) and setIs s
 
 -- ---- the order of the tests, and what a call that is turned down leaves
 -- tests 2 before 1

@@ -11,7 +11,7 @@ use Rattle.words.specs.Bytes.{byte, fourBytes}
 use Rattle.chips.specs.declared.Facts.{Facts}
 use Rattle.slot.specs.Slots.{occupied, powered, selecting, paged, opened, closed}
 use Rattle.faults.specs.declared.Fault.{Fault}
-use Rattle.faults.specs.Faults.{typeByte, dwLength, bSlot, supported, headerFault, ready, isClear, faultOf}
+use Rattle.faults.specs.Faults.{typeByte, dwLength, bSlot, supported, badField, ready, isClear, faultOf}
 use Rattle.frame.specs.Answers.{bError}
 use Rattle.frame.specs.Exchange.{exchange}
 use Rattle.wrong.specs.Wrong.{Reader, slotting, imaging, marking, telling, cardIn, faulting, upon}
@@ -83,7 +83,7 @@ anyPower = faulting λ r s m. faultOf r s (set m 7 0)
 
 -- looks at byte 7 of this type as if it were bPowerSelect
 abbrev pub powerIn : ℕ → Reader
-powerIn type = faulting λ r s m. typeByte m is type and isClear (faultOf r s m) and ltb 3 (byte m 7) ⇒ Fault.Power ⁏ faultOf r s m
+powerIn type = faulting λ r s m. typeByte m is type and isClear (faultOf r s m) and ltb 3 (byte m 7) ⇒ Fault.Field 7 ⁏ faultOf r s m
 
 -- looks at the high byte of wLevelParameter alone
 abbrev pub highLevelAlone : Reader
@@ -96,7 +96,7 @@ lowLevelAlone = faulting λ r s m. faultOf r s (set m 9 0)
 -- looks at bytes 8 and 9 of this type as if they were wLevelParameter
 abbrev pub levelIn : ℕ → Reader
 levelIn type = faulting λ r s m.
-    typeByte m is type and isClear (faultOf r s m) and (byte m 8 isnt 0 or byte m 9 isnt 0) ⇒ Fault.Level
+    typeByte m is type and isClear (faultOf r s m) and (byte m 8 isnt 0 or byte m 9 isnt 0) ⇒ Fault.Field 8
     ⁏ faultOf r s m
 
 -- ---- fault 5
@@ -138,12 +138,12 @@ slotBeforeLength = faulting λ r s m. supported r and bSlot m isnt 0 ⇒ Fault.O
 
 -- finds fault 4 before 3
 abbrev pub headerBeforeSlot : Reader
-headerBeforeSlot = faulting λ r s m. bError (faultOf r s m) is 0x05 and not (isClear (headerFault r m)) ⇒ headerFault r m ⁏ faultOf r s m
+headerBeforeSlot = faulting λ r s m. bError (faultOf r s m) is 0x05 and badField r m isnt 0 ⇒ Fault.Field (badField r m) ⁏ faultOf r s m
 
 -- finds fault 5 before 4
 abbrev pub cardBeforeHeader : Reader
 cardBeforeHeader = faulting λ r s m.
-    (bError (faultOf r s m) is 0x07 or bError (faultOf r s m) is 0x08) and not (ready r s) ⇒ Fault.Card
+    badField r m isnt 0 and bError (faultOf r s m) is badField r m and not (ready r s) ⇒ Fault.Card
     ⁏ faultOf r s m
 
 -- ---- power on

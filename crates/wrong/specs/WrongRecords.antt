@@ -5,14 +5,16 @@ use mathlib.Core.Path.{_≡_}
 use mathlib.Core.Bool.{Bool, false, not}
 use mathlib.Core.List.{List, [], _∷_, _++_}
 use lib.ListN.{length, take, drop, set, replicate}
+use lib.Seq.{sets}
 use lib.IntN.{ℤ, pos, negsuc}
 use Rattle.words.specs.Choice.{_⇒_⁏_, _and_, _is_, _isnt_}
-use Rattle.words.specs.Bytes.{byte, same}
+use Rattle.words.specs.Bytes.{byte, same, lowFirst}
 use Rattle.words.specs.Bounds.{leastRoom}
 use Rattle.chips.specs.declared.Chip.the-variants.{I2c1, Sle4442}
 use Rattle.chips.specs.declared.Known.{Known}
 use Rattle.chips.specs.declared.Known.the-variants.{Is, Unknown}
 use Rattle.chips.specs.Kinds.{chipOf}
+use Rattle.sets.specs.Sets.{defaultSet}
 use Rattle.slot.specs.Slots.{removed, inserted}
 use Rattle.record.specs.declared.Reading.{Reading}
 use Rattle.record.specs.Raw.{rawOf, slotOf}
@@ -23,6 +25,7 @@ use Rattle.reader.specs.Fronts.{frontOf}
 use Rattle.calls.specs.Calls.{RawOutcome, rawDown, rawServed, rawExchange, rawInsertion, rawRemoval, RawGives, resultOf}
 use Rattle.vectors.specs.Sessions.{image4442}
 use Rattle.promise.specs.Visits.{select}
+use Rattle.wrong.specs.ParamRows.{good1, holding}
 use Rattle.wrong.specs.Inputs.{bare, shut, wide, mem4442, memI2c, plain}
 
 -- ---- what a reader of a raw record is: of a message (record, image, message, length of the answer buffer), of an insertion, of a removal; and
@@ -65,7 +68,7 @@ uponAnswer change r image m room = let o = rawExchange r image m room in o .numb
 -- ---- reading the record
 -- does not look at the rest of the record
 abbrev pub rawAnyRest : RawReader
-rawAnyRest = recordBy λ r. slotOf (length r is 32 ⇒ take 5 r ++ replicate 27 0 ⁏ r)
+rawAnyRest = recordBy λ r. slotOf (length r is 32 ⇒ take 13 r ++ replicate 19 0 ⁏ r)
 
 -- does not look at the last byte of the record
 abbrev pub rawLastUnseen : RawReader
@@ -90,6 +93,18 @@ rawTypeForPage = recordBy λ r. slotOf (set (set r 2 (byte r 3)) 3 (byte r 2))
 -- takes the open byte for the active one, and the active for the open
 abbrev pub rawActiveForOpen : RawReader
 rawActiveForOpen = recordBy λ r. slotOf (set (set r 1 (byte r 4)) 4 (byte r 1))
+
+-- takes the default for any parameters
+abbrev pub rawSetUnread : RawReader
+rawSetUnread = recordBy λ r. slotOf (length r is 32 ⇒ sets r 5 (lowFirst 7 defaultSet) ⁏ r)
+
+-- takes the protocol number for the last byte of the parameters
+abbrev pub rawProtocolLast : RawReader
+rawProtocolLast = recordBy λ r. slotOf (length r is 32 ⇒ take 5 r ++ take 7 (drop 6 r) ++ (byte r 5 ∷ drop 13 r) ⁏ r)
+
+-- does not look at the last byte of the parameters
+abbrev pub rawNadUnseen : RawReader
+rawNadUnseen = recordBy λ r. slotOf (length r is 32 ⇒ set r 12 0 ⁏ r)
 
 -- takes kind 0 for an unknown kind
 abbrev pub rawNoneUnknown : RawReader
@@ -128,6 +143,14 @@ rawOpenStays = uponAnswer λ r o. rawMarking 4 (byte r 4) o
 abbrev pub rawTypeOverPage : RawReader
 rawTypeOverPage = uponAnswer λ r o. rawMarking 3 (byte (o .raw) 2) o
 
+-- leaves the parameters as they were
+abbrev pub rawSetStays : RawReader
+rawSetStays = uponAnswer λ r o. rawing (take 5 (o .raw) ++ take 8 (drop 5 r) ++ drop 13 (o .raw)) o
+
+-- writes five bytes of the parameters
+abbrev pub rawFiveBytes : RawReader
+rawFiveBytes = uponAnswer λ r o. rawing (sets (o .raw) 11 (0 ∷ 0 ∷ [])) o
+
 -- forgets the card after a message
 abbrev pub rawForgetsCard : RawReader
 rawForgetsCard = uponAnswer λ r o. rawMarking 0 0 o
@@ -155,7 +178,14 @@ rawInsertsAnyLength r kind image = rawInsertion (take 32 r) kind image
 
 -- leaves the rest of the record as it was at an insertion
 abbrev pub rawInsertKeepsRest : RawInserter
-rawInsertKeepsRest r kind image = let o = rawInsertion r kind image in o .number is 0 ⇒ rawing (take 5 (o .raw) ++ drop 5 r) o ⁏ o
+rawInsertKeepsRest r kind image = let o = rawInsertion r kind image in o .number is 0 ⇒ rawing (take 13 (o .raw) ++ drop 13 r) o ⁏ o
+
+-- leaves the parameters of the record as they were at an insertion
+abbrev pub rawInsertKeepsSet : RawInserter
+rawInsertKeepsSet r kind image =
+    let o = rawInsertion r kind image in
+    o .number is 0 ⇒ rawing (take 5 (o .raw) ++ take 8 (drop 5 r) ++ drop 13 (o .raw)) o
+    ⁏ o
 
 -- ---- removal
 -- leaves the record as it was at a removal
@@ -164,7 +194,11 @@ rawRemovalLeaves r = rawing r (rawRemoval r)
 
 -- leaves the rest of the record as it was at a removal
 abbrev pub rawRemovalKeepsRest : RawRemover
-rawRemovalKeepsRest r = let o = rawRemoval r in o .number is 0 ⇒ rawing (take 5 (o .raw) ++ drop 5 r) o ⁏ o
+rawRemovalKeepsRest r = let o = rawRemoval r in o .number is 0 ⇒ rawing (take 13 (o .raw) ++ drop 13 r) o ⁏ o
+
+-- makes the parameters 00h at a removal
+abbrev pub rawRemovalZeroes : RawRemover
+rawRemovalZeroes r = let o = rawRemoval r in o .number is 0 ⇒ rawing (sets (o .raw) 5 (replicate 8 0)) o ⁏ o
 
 -- turns the removal from a broken record down
 abbrev pub rawRemovalVets : RawRemover
@@ -233,22 +267,28 @@ EachRawRefuted [] = Unit {0}
 EachRawRefuted (w ∷ ws) = RawRefuted w × EachRawRefuted ws
 
 -- ---- the table
--- the card's record, and an empty one
+-- the card's record, one with a T=1 set, and an empty one
 abbrev pub cardRecord : List ℕ
 cardRecord = rawOf (shut Sle4442)
+
+abbrev pub t1Record : List ℕ
+t1Record = rawOf (holding 1 good1)
 
 abbrev pub emptyRecord : List ℕ
 emptyRecord = rawOf removed
 
 unfoldable pub wrongRecords : List RawWitness
 wrongRecords =
-    byRawMessage rawAnyRest (set cardRecord 5 0x01) mem4442 (plain 0x65)
+    byRawMessage rawAnyRest (set cardRecord 13 0x01) mem4442 (plain 0x65)
     ∷ byRawMessage rawLastUnseen (set cardRecord 31 0x01) mem4442 (plain 0x65)
     ∷ byRawMessage rawActive2 (set cardRecord 1 0x02) mem4442 (plain 0x65)
     ∷ byRawMessage rawOpen2 (set cardRecord 4 0x02) mem4442 (plain 0x65)
     ∷ byRawMessage rawAnyLength (cardRecord ++ (0x00 ∷ [])) mem4442 (plain 0x65)
     ∷ byRawMessage rawTypeForPage cardRecord mem4442 (plain 0x65)
     ∷ byRawMessage rawActiveForOpen cardRecord mem4442 (plain 0x65)
+    ∷ byRawMessage rawSetUnread t1Record mem4442 (plain 0x6C)
+    ∷ byRawMessage rawProtocolLast cardRecord mem4442 (plain 0x6C)
+    ∷ byRawMessage rawNadUnseen (set t1Record 12 0x01) mem4442 (plain 0x65)
     ∷ byRawMessage rawNoneUnknown emptyRecord [] (plain 0x65)
     ∷ byRawMessage rawUnknownNone (set emptyRecord 0 0xFF) [] (plain 0x65)
     ∷ byRawMessage rawUnknown4 (set emptyRecord 0 0xFF) [] (plain 0x65)
@@ -256,6 +296,8 @@ wrongRecords =
     ∷ byRawMessage rawStays (rawOf (inserted Sle4442)) mem4442 (plain 0x62)
     ∷ byRawMessage rawOpenStays (rawOf (wide Sle4442)) mem4442 (plain 0x62)
     ∷ byRawMessage rawTypeOverPage (rawOf (bare Sle4442)) mem4442 (select 0x06)
+    ∷ byRawMessage rawSetStays t1Record mem4442 (plain 0x6D)
+    ∷ byRawMessage rawFiveBytes t1Record mem4442 (plain 0x65)
     ∷ byRawMessage rawForgetsCard cardRecord mem4442 (plain 0x65)
     ∷ byRawMessage rawDownEmpties cardRecord (image4442 0x08) (plain 0x65)
     ∷ byRawInsertion rawInsertsOver (rawOf (shut I2c1)) 30 mem4442
@@ -263,8 +305,10 @@ wrongRecords =
     ∷ byRawInsertion rawInsertVets (set emptyRecord 31 0x01) 30 mem4442
     ∷ byRawInsertion rawInsertsAnyLength (emptyRecord ++ (0x00 ∷ [])) 30 mem4442
     ∷ byRawInsertion rawInsertKeepsRest (set emptyRecord 31 0x01) 1 memI2c
+    ∷ byRawInsertion rawInsertKeepsSet (set emptyRecord 5 0x01) 30 mem4442
     ∷ byRawRemoval rawRemovalLeaves cardRecord
     ∷ byRawRemoval rawRemovalKeepsRest (set cardRecord 31 0x01)
+    ∷ byRawRemoval rawRemovalZeroes cardRecord
     ∷ byRawRemoval rawRemovalVets (set cardRecord 31 0x01)
     ∷ byRawRemoval rawRemovalAnyLength (take 31 cardRecord)
     ∷ byResult tellsPositive 4 0

@@ -67,6 +67,49 @@ fn messages() {
 }
 
 #[test]
+fn parameters() {
+    let lines = [
+        "parameters",
+        "parameters reset",
+        "parameters t0 1100000A00",
+        "slot 02\nparameters t1 18 10 FF 4D 00 FE 00",
+        "parameters t0",
+        "parameters t1 11*9",
+        "status",
+    ];
+    let wanted = [
+        "6C 00000000 00 00 000000",
+        "6D 00000000 00 01 000000",
+        "61 05000000 00 02 000000 11 00 00 0A 00",
+        "61 07000000 02 03 010000 18 10 FF 4D 00 FE 00",
+        // The number of bytes is the writer's own.
+        "61 00000000 00 04 000000",
+        "61 09000000 00 05 010000 11*9",
+        "65 00000000 00 06 000000",
+    ];
+    let records = records(&lines.join("\n"));
+    for (record, wanted) in records.iter().zip(wanted) {
+        assert_eq!(record[..2], [0x4f, 0x4d]);
+        assert_eq!(record[4..], bytes(wanted));
+    }
+    assert_eq!(records.len(), wanted.len());
+}
+
+#[test]
+fn expected_sets() {
+    let text = "parameters\nexpect t0 1100 00 0A00\nexpect t1 11 10 00*5";
+    let sets: Vec<(u8, Vec<u8>)> = script(text)
+        .unwrap_or_default()
+        .into_iter()
+        .filter_map(|step| match step {
+            Step::Expect { expected: Expected::Set(protocol, set), .. } => Some((protocol, set)),
+            _ => None,
+        })
+        .collect();
+    assert_eq!(sets, [(0, bytes("11 00 00 0A 00")), (1, bytes("11 10 00*5"))]);
+}
+
+#[test]
 fn sequence_and_slot() {
     let text = "status\nraw 65\nstatus\nseq FE\nslot 05\nstatus\nstatus\nstatus";
     let named: Vec<Vec<u8>> =
@@ -150,6 +193,12 @@ fn faults_name_their_line() {
         ("sing", "'sing' is no word of the language (docs/SCRIPTS.md has it)"),
         ("power", "it is 'power on' or 'power off'"),
         ("status now", "'now' is too much"),
+        ("parameters t2 00", "it is 'parameters' alone, or with 'reset', 't0 HEX' or 't1 HEX'"),
+        ("parameters 1100000A00", "it is 'parameters' alone, or with 'reset', 't0 HEX' or 't1 HEX'"),
+        ("parameters reset now", "'now' is too much"),
+        ("parameters t0 11 0", "'0' is not bytes in hex"),
+        ("parameters t1 reset", "'reset' is not bytes in hex"),
+        ("parameters t0 00*65526", "a record holds at most 65535 bytes, and these are 65536"),
         ("seq 1", "'1' is not bytes in hex"),
         ("seq 01 02", "'seq' takes one byte in hex"),
         ("insert", "insert what? A card as sle4442, or 'nothing'"),
@@ -170,6 +219,9 @@ fn faults_name_their_line() {
         ("expect 90 00", "there is no answer to expect anything of yet"),
         ("remove\nexpect", "expect what?"),
         ("remove\nexpect ..", "expect which bytes?"),
+        ("remove\nexpect t0", "expect which bytes?"),
+        ("remove\nexpect t1 11 1", "'1' is not bytes in hex"),
+        ("remove\nexpect t2 11", "'t2' is not bytes in hex"),
         ("remove\nexpect refused 6", "'6' is no number from 1 to 5"),
         ("remove\nexpect error", "'expect error' takes one byte in hex"),
     ] {

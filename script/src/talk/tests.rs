@@ -10,6 +10,9 @@ fn expectations() {
     let read = "msg 0 80030000000009000000a29000";
     let mute = "msg 0 8000000000000942fe00";
     let done = "msg 0 81000000000009000000";
+    let set = "msg 0 820500000000090100001100000a00";
+    let other_set = "msg 0 820700000000090000011110004d002000";
+    let no_set = "msg 0 8200000000000942fe00";
     let all = [
         (Expected::Data(vec![0xa2, 0x90, 0x00]), read, vec![done, mute, "msg 0 80030000000009000000a29001", "bad"]),
         (Expected::DataEnd(vec![0x90, 0x00]), read, vec![done, mute, "msg 0 80030000000009000000a29001"]),
@@ -18,6 +21,23 @@ fn expectations() {
         (Expected::State(0), read, vec![mute, "msg 0 81000000000009010001", "in 0"]),
         (Expected::State(1), "msg 0 81000000000009010001", vec![done, mute]),
         (Expected::State(2), mute, vec![done, read]),
+        (
+            Expected::Set(0, vec![0x11, 0x00, 0x00, 0x0a, 0x00]),
+            set,
+            vec![
+                other_set,
+                no_set,
+                "msg 0 820500000000090100011100000a00", // another protocol number
+                "msg 0 800500000000090100001100000a00", // no answer of parameters
+                "msg 0 820500000000094100001100000a00", // failed
+                "msg 0 820500000000090100001200000a00",
+                "msg 0 820600000000090100001100000a0000",
+                "msg 2",
+            ],
+        ),
+        (Expected::Set(1, vec![0x11, 0x10, 0x00, 0x4d, 0x00, 0x20, 0x00]), other_set, vec![set, no_set, read]),
+        (Expected::Data(vec![0x11, 0x00, 0x00, 0x0a, 0x00]), set, vec![other_set, no_set]),
+        (Expected::Error(0xfe), no_set, vec![set]),
         (Expected::Answer(vec![0x81, 0, 0, 0, 0, 0, 9, 0, 0, 0]), done, vec![read, "msg 0 81000000000009000001"]),
         (Expected::Refused(2), "msg 2", vec!["msg 3", "in 3", "msg 0", read, "bad"]),
         (Expected::Refused(5), "in 5", vec!["in 3", "in 0", "msg 2"]),
@@ -43,6 +63,19 @@ fn lines_that_are_no_answers() {
         assert!(!heard(line).meets(&Expected::Nothing), "{}", line);
         assert!(!heard(line).meets(&Expected::State(0)), "{}", line);
     }
+}
+
+/// A set is told where it is sent and where it is answered.
+#[test]
+fn sets_in_words() {
+    let message = vec![0x61, 5, 0, 0, 0, 0, 9, 0, 0, 0, 0x11, 0x00, 0x00, 0x0a, 0x00];
+    let line = "msg 0 820500000000090100001100000a00".to_string();
+    let heard = Heard { message: message.clone(), line };
+    let parts = heard.told(&Record::Message(message));
+    let names: Vec<&str> = parts.iter().map(|(name, _)| *name).collect();
+    assert_eq!(names, ["sent", "set", "answer", "status", "data", "set"]);
+    assert!(parts[1].1.starts_with("T=0: F 372"), "{}", parts[1].1);
+    assert_eq!(parts[1], parts[5]);
 }
 
 #[test]

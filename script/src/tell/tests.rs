@@ -26,8 +26,39 @@ fn messages() {
         message(&bytes("63 FFFFFFFF 00 07 010203")),
         "63 power off, bSlot 00, bSeq 07, dwLength FFFFFFFFh where 0 bytes came, bytes 7 to 9 01 02 03"
     );
-    assert_eq!(message(&bytes("61 00000000 00 07 000000")), "61 an unsupported type, bSlot 00, bSeq 07");
+    assert_eq!(message(&bytes("69 00000000 00 07 000000")), "69 an unsupported type, bSlot 00, bSeq 07");
     assert_eq!(message(&[0x65]), "a message of only 1 bytes: 65");
+}
+
+#[test]
+fn messages_of_parameters() {
+    for (text, wanted) in [
+        ("6C 00000000 00 07 000000", "6C get parameters, bSlot 00, bSeq 07"),
+        ("6D 00000000 00 07 010203", "6D reset parameters, bSlot 00, bSeq 07, bytes 7 to 9 01 02 03"),
+        (
+            "61 05000000 00 07 000000 11 00 00 0A 00",
+            "61 set parameters, bSlot 00, bSeq 07, protocol number 00, 5 data bytes 11 00 00 0A 00",
+        ),
+        (
+            "61 07000000 01 07 010203 11 10 00 4D 00 20 00",
+            "61 set parameters, bSlot 01, bSeq 07, bytes 8 to 9 02 03, protocol number 01, \
+             7 data bytes 11 10 00 4D 00 20 00",
+        ),
+        (
+            "61 05000000 00 07 820000",
+            "61 set parameters, bSlot 00, bSeq 07, dwLength 00000005h where 0 bytes came, protocol number 82, \
+             0 data bytes",
+        ),
+    ] {
+        assert_eq!(message(&bytes(text)), wanted);
+    }
+    let set = sent_set(&bytes("61 05000000 00 07 000000 11 00 00 0A 00"));
+    assert_eq!(set, Some(parameters::told(0, &[0x11, 0x00, 0x00, 0x0a, 0x00])));
+    let none = sent_set(&bytes("61 00000000 00 07 010000"));
+    assert_eq!(none.as_deref(), Some("no set: T=1 has 7 bytes, and these are 0"));
+    for other in ["", "61", "61 05000000 00 07 0000", "6C 00000000 00 07 000000"] {
+        assert_eq!(sent_set(&bytes(other)), None);
+    }
 }
 
 #[test]
@@ -77,6 +108,39 @@ fn answers() {
         let failed = answer(&transfer(""), &[0x80, 0, 0, 0, 0, 0, 9, 0x42, error, 0]);
         let wanted = format!("42 failed, no card, or another slot, error {:02X} {}", error, text);
         assert_eq!(failed[1], ("status", wanted));
+    }
+}
+
+#[test]
+fn answers_of_parameters() {
+    let get = bytes("6C 00000000 00 07 000000");
+    let parts = answer(&get, &bytes("82 05000000 00 07 01 00 00 11 00 00 0A 00"));
+    let wanted = [
+        ("answer", "82 parameters, bSlot 00, bSeq 07, protocol number 00".to_string()),
+        ("status", "01 success, card inactive, error 00 none".to_string()),
+        ("data", "11 00 00 0A 00".to_string()),
+        ("set", parameters::told(0, &[0x11, 0x00, 0x00, 0x0a, 0x00])),
+    ];
+    assert_eq!(parts, wanted);
+    let parts = answer(&get, &bytes("82 07000000 00 07 00 00 01 11 10 00 4D 00 20 00"));
+    assert_eq!(parts[0].1, "82 parameters, bSlot 00, bSeq 07, protocol number 01");
+    assert_eq!(parts[3], ("set", parameters::told(1, &[0x11, 0x10, 0x00, 0x4d, 0x00, 0x20, 0x00])));
+    for (error, text) in [
+        (0x01, "dwLength is wrong"),
+        (0x05, "there is no such slot"),
+        (0x07, "the protocol number does not fit the number of bytes"),
+        (0x08, "no error of the paper"),
+        (0x0a, "byte 10: FI or DI is reserved"),
+        (0x0b, "byte 11: the upper six bits are not those of the protocol"),
+        (0x0c, "no error of the paper"),
+        (0x0d, "byte 13: BWI is above 9"),
+        (0x0e, "byte 14: the clock stop is above 3"),
+        (0x10, "byte 16: NAD is not 0"),
+        (0xfe, "there is no card"),
+    ] {
+        let failed = answer(&get, &[0x82, 0, 0, 0, 0, 0, 7, 0x41, error, 0]);
+        assert_eq!(failed[1], ("status", format!("41 failed, card inactive, error {:02X} {}", error, text)));
+        assert_eq!(failed.len(), 2);
     }
 }
 
@@ -136,4 +200,30 @@ fn odd_answers() {
     let parts = answer(&transfer(""), &[0x55, 1, 0, 0, 0, 0, 9, 3, 1, 0]);
     assert_eq!(parts[0].1, "55 no answer type of the paper, bSlot 00, bSeq 09, dwLength 1 where 0 bytes came");
     assert_eq!(parts[1].1, "03 success, no state of the paper, error 01 which a success does not have");
+    // An answer of parameters without a set, with one of no protocol, and to what asked for none.
+    let empty = [0x82, 0, 0, 0, 0, 0, 9, 0, 0, 1];
+    assert_eq!(answer(&transfer(""), &empty).last().unwrap().1, "no set: T=1 has 7 bytes, and these are 0");
+    let unknown = [&[0x82, 1, 0, 0, 0, 0, 9, 0, 0, 0x80][..], &[7; 300]].concat();
+    let parts = answer(&[0x61], &unknown);
+    assert_eq!(parts.last().unwrap().1, "no set: protocol number 80 is neither T=0 nor T=1");
+    let failed = [&[0x82, 2, 0, 0, 0, 0, 9, 0x40, 0x0a, 1][..], &[0x90, 0x00]].concat();
+    assert_eq!(answer(&[0x61], &failed).last(), Some(&("data", "90 00".to_string())));
+}
+
+/// Whatever the message and the answer begin with and however long they are, they are told.
+#[test]
+fn any_bytes_are_told() {
+    for first in 0..=255_u8 {
+        for length in (0..20).chain([30, 271]) {
+            for fill in [0x00, 0x01, 0x41, 0x7f, 0xff] {
+                let mut whole = vec![fill; length];
+                whole.iter_mut().take(1).for_each(|byte| *byte = first);
+                let _ = sent_set(&whole);
+                assert!(!message(&whole).is_empty());
+                for kind in [0x61, 0x62, 0x65, 0x6c, 0x6f] {
+                    assert!(!answer(&[kind; 17], &whole).is_empty());
+                }
+            }
+        }
+    }
 }

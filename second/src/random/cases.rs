@@ -1,7 +1,7 @@
 //! Trial cases: whole states, most of them sound.
 
 use super::{Maker, Rng, Stream};
-use crate::case::{Case, LONGEST_BUFFER, LONGEST_MESSAGE, RECORD};
+use crate::case::{raw, Case, LONGEST_BUFFER, LONGEST_MESSAGE, RECORD, REST};
 use crate::count::Count;
 use crate::reader::{Chip, Slot};
 use crate::step::Reader;
@@ -74,12 +74,6 @@ pub fn cases(seed: u64, index: u64, wanted: usize, count: &mut Count) -> Stream<
     stream
 }
 
-fn raw(slot: &Slot) -> [u8; RECORD] {
-    let mut record = [0; RECORD];
-    record[..5].copy_from_slice(&[slot.kind, slot.active.into(), slot.selected, slot.page, slot.open.into()]);
-    record
-}
-
 impl Maker {
     /// A sound slot with a card, or now and then without, far along.
     fn any_state(&mut self) {
@@ -89,6 +83,7 @@ impl Maker {
         }
         let chip = self.any_chip();
         self.reader.image = self.image(chip);
+        self.reader.slot.parameters = self.any_set();
         let slot = &mut self.reader.slot;
         slot.kind = chip.kind;
         slot.page = 8 << self.rng.below(5);
@@ -148,6 +143,9 @@ impl Maker {
 
     /// Puts a fault into the record: which one, and whether it stands alone.
     fn unsound(&mut self, case: &mut Case) -> (String, bool) {
+        if self.rng.chance(50) {
+            return (self.unsound_set(case).to_string(), true);
+        }
         // Every rest byte has to be at fault, so that fault comes more often.
         let faults = RECORD_FAULTS.len();
         let which = self.rng.below(faults + 14);
@@ -163,7 +161,8 @@ impl Maker {
         let mut other_card = |maker: &mut Maker, kind: u8| {
             if let Some(chip) = Chip::of(kind) {
                 case.image = maker.image(chip);
-                slot = Slot { kind, active: true, selected: chip.select, page: 8 << maker.rng.below(5), open: false };
+                let (page, parameters) = (8 << maker.rng.below(5), maker.any_set());
+                slot = Slot { kind, active: true, selected: chip.select, page, open: false, parameters };
             }
         };
         match fault {
@@ -226,7 +225,7 @@ impl Maker {
                 return (fault.to_string(), true);
             }
             _ => {
-                let k = 5 + self.rng.below(RECORD - 5);
+                let k = REST + self.rng.below(RECORD - REST);
                 case.record[k] = 1 + self.rng.below(255) as u8;
                 return (format!("rest byte {} not 00h", k), true);
             }

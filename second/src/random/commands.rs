@@ -31,7 +31,7 @@ impl Maker {
     pub(super) fn apdu(&mut self) -> Vec<u8> {
         let own = self.chip().map_or(0x06, |chip| chip.select);
         let slot = &self.reader.slot;
-        let ins = if slot.active && slot.selected == 0 && self.rng.chance(70) {
+        let ins = if slot.active && slot.selected == 0 && self.rng.chance(60) {
             0xa4
         } else if self.rng.chance(6) {
             self.rng.pick(&INS)
@@ -52,9 +52,9 @@ impl Maker {
         let mut apdu = self.command(ins, form);
         // Commands that have but one right form are spoiled more often.
         let percent = match ins {
-            0xa4 => 20,
+            0xa4 => 24,
             0x01 | 0xb1 | 0xb2 | 0xd2 => 16,
-            _ => 9,
+            _ => 12,
         };
         if self.rng.chance(percent) {
             self.spoil(&mut apdu);

@@ -23,7 +23,11 @@ impl Maker {
     /// Any message: mostly one that the present card can carry out.
     pub(super) fn message(&mut self) -> Vec<u8> {
         // Before there is an active card most messages fail anyway.
-        let early = usize::from(!self.reader.slot.active) * 12;
+        let early = match (self.reader.slot.kind, self.reader.slot.active) {
+            (0, _) => 24,
+            (_, false) => 12,
+            _ => 0,
+        };
         let message = match self.rng.below(100) {
             0..=3 if !self.last.is_empty() => self.last.clone(),
             which if (4..12 + early).contains(&which) => {
@@ -45,12 +49,13 @@ impl Maker {
     fn fair_message(&mut self) -> Vec<u8> {
         let slot = &self.reader.slot;
         let weights = match (slot.kind, slot.active, slot.selected) {
-            (0, ..) => [(3, 0x62), (2, 0x63), (3, 0x65), (3, 0x6f)],
-            (_, false, _) => [(14, 0x62), (1, 0x63), (2, 0x65), (2, 0x6f)],
-            (_, true, 0) => [(2, 0x62), (1, 0x63), (1, 0x65), (20, 0x6f)],
-            _ => [(3, 0x62), (1, 0x63), (3, 0x65), (93, 0x6f)],
+            (0, ..) => [(3, 0x62), (2, 0x63), (3, 0x65), (3, 0x6f), (9, 0x61), (2, 0x6c), (2, 0x6d)],
+            (_, false, _) => [(14, 0x62), (1, 0x63), (2, 0x65), (2, 0x6f), (10, 0x61), (3, 0x6c), (1, 0x6d)],
+            (_, true, 0) => [(2, 0x62), (1, 0x63), (1, 0x65), (20, 0x6f), (2, 0x61), (1, 0x6c), (1, 0x6d)],
+            _ => [(3, 0x62), (1, 0x63), (3, 0x65), (93, 0x6f), (14, 0x61), (4, 0x6c), (2, 0x6d)],
         };
         match self.rng.weighed(&weights) {
+            0x61 => self.set_parameters(),
             0x6f => {
                 let apdu = self.apdu();
                 self.ccid(0x6f, &apdu)
@@ -66,7 +71,9 @@ impl Maker {
         match rng.below(16) {
             // an unsupported type
             0 | 1 => {
-                message[0] = rng.pick(&[0x00, 0x61, 0x64, 0x66, 0x6a, 0x6b, 0x6c, 0x6e, 0x70, 0x80, 0x81, 0xe2, 0xff]);
+                message[0] = rng.pick(&[
+                    0x00, 0x60, 0x64, 0x66, 0x69, 0x6a, 0x6b, 0x6e, 0x70, 0x71, 0x80, 0x81, 0x82, 0xe1, 0xe2, 0xff,
+                ]);
                 message[5] = rng.pick(&[0, 0, 1, 0xff]);
             }
             // cut, or lengthened
@@ -97,8 +104,10 @@ impl Maker {
                 message[1..5].copy_from_slice(&(long as u32).to_le_bytes());
             }
             8 | 9 => {
-                let kind = rng.pick(&[0x62, 0x63, 0x65, 0x6f]);
-                if kind != 0x6f || message[0] != 0x6f {
+                let kind = rng.pick(&[0x61, 0x62, 0x63, 0x65, 0x6c, 0x6c, 0x6d, 0x6d, 0x6f]);
+                if kind == 0x61 {
+                    message = self.set_parameters();
+                } else if kind != 0x6f || message[0] != 0x6f {
                     message = self.ccid(kind, &[]);
                 }
                 message[5] = self.rng.pick(&[1, 2, 0x10, 0x80, 0xff]);
@@ -115,7 +124,7 @@ impl Maker {
             13 => {
                 let count = 1 + rng.below(6);
                 let data = rng.bytes(count);
-                let kind = rng.pick(&[0x62, 0x63, 0x65]);
+                let kind = rng.pick(&[0x62, 0x63, 0x65, 0x6c, 0x6d]);
                 message = self.ccid(kind, &data);
             }
             // two faults at once

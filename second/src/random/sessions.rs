@@ -31,6 +31,7 @@ pub fn sessions(seed: u64, index: u64, messages: usize, count: &mut Count) -> St
         maker: Maker::new(Rng::new(seed, index)),
         stream: Stream { parts: Vec::new(), lines: Vec::new(), starts: Vec::new() },
         messages: 0,
+        befell: None,
         count,
     };
     while making.messages < messages {
@@ -46,6 +47,8 @@ struct Making<'a> {
     maker: Maker,
     stream: Stream<Record>,
     messages: usize,
+    /// What last befell the parameter set, until a 6Ch tells it.
+    befell: Option<&'static str>,
     count: &'a mut Count,
 }
 
@@ -78,8 +81,40 @@ impl Making<'_> {
             }
             _ => self.count.add(format!("{}: {}", line, why)),
         }
+        self.parameters(&before, &record, &line);
         self.stream.parts.push(record);
         self.stream.lines.push(line);
+    }
+
+    /// Counts a 6Ch together with what befell the set before it.
+    fn parameters(&mut self, before: &count::Before, record: &Record, line: &str) {
+        let other = before.has_other_set();
+        if let (true, Record::Insert(_) | Record::Remove) = (other, record) {
+            self.count.add(format!("{}: a card with another set", line));
+        }
+        self.befell = match (record, line.strip_prefix("msg 0 ")) {
+            (Record::Insert(_), _) if other => Some("in 5 over another set"),
+            (Record::Remove, _) if other => Some("out and in over another set"),
+            // The eighth byte of an answer is bStatus.
+            (Record::Message(message), Some(answer)) => match (message[0], &answer[14..15] == "4", other) {
+                (0x61, false, _) => Some("61h"),
+                (0x62, false, true) => Some("62h over another set"),
+                (0x63, false, true) => Some("63h over another set"),
+                (0x6d, false, true) => Some("6Dh over another set"),
+                (0x61, true, true) => Some("61h failed over another set"),
+                (0x62, true, true) => Some("62h failed over another set"),
+                (0x6d, true, true) => Some("6Dh failed over another set"),
+                (0x62 | 0x6d, false, false) => None,
+                (0x6c, false, _) => {
+                    if let Some(what) = self.befell {
+                        self.count.add(format!("6Ch after {}", what));
+                    }
+                    None
+                }
+                _ => self.befell,
+            },
+            _ => self.befell,
+        };
     }
 
     fn insert(&mut self, kind: u8, image: &[u8], why: &str) {

@@ -1,4 +1,4 @@
--- `keep_state` meets its contract: an answer writes bytes 1 to 4, a refusal leaves the record.
+-- `keep_state` meets its contract: an answer writes bytes 1 to 12, a refusal leaves the record.
 use borrow.Author.Needs.{needs}
 use mathlib.Core.Path.{refl, sym, ap, _∙_}
 use native.Mathlib.Omega.{arith}

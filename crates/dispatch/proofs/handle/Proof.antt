@@ -13,6 +13,9 @@ use Rattle.dispatch.proofs.handle.Tie as tie
 shared-slice-read-message-type : tie.Need-shared-slice-read-message-type
 shared-slice-read-message-type c = search needs
 
+set-parameters-requires : tie.Need-set-parameters-requires
+set-parameters-requires c κs = search needs
+
 power-on-requires : tie.Need-power-on-requires
 power-on-requires c κs = search needs
 
@@ -21,6 +24,12 @@ power-off-requires c κs = search needs
 
 slot-status-requires : tie.Need-slot-status-requires
 slot-status-requires c κs = search needs
+
+get-parameters-requires : tie.Need-get-parameters-requires
+get-parameters-requires c κs = search needs
+
+reset-parameters-requires : tie.Need-reset-parameters-requires
+reset-parameters-requires c κs = search needs
 
 transfer-requires : tie.Need-transfer-requires
 transfer-requires c κs = search needs
@@ -31,17 +40,17 @@ unsupported-requires c κs = search needs
 same-length : tie.Need-same-length
 same-length c = search needs
 
-same-length-2 : tie.Need-same-length-2
-same-length-2 c = search needs
-
 returns : tie.Need-returns
 unfolding requestOf _⇒_⁏_
 returns c =
-    let at-match = c .before .before .before .before .before in
+    let at-match = c .before .before .before .before in
     let start = at-match .before .before .before .before .before in
     let a = start .args in
     gives-is (ap (λ (r : Request). reply r (a .slot) (a .image .now) (a .msg .now)) (ap requestOf (at-match .match .keys1)))
-    (c .before .before .power-on .ensures)
+    (c .before .before .set-parameters .ensures (a .image .now))
+
+same-length-2 : tie.Need-same-length-2
+same-length-2 c = search needs
 
 same-length-3 : tie.Need-same-length-3
 same-length-3 c = search needs
@@ -49,11 +58,11 @@ same-length-3 c = search needs
 returns-2 : tie.Need-returns-2
 unfolding requestOf _⇒_⁏_
 returns-2 c =
-    let at-match = c .before .before .before .before in
+    let at-match = c .before .before .before .before .before in
     let start = at-match .before .before .before .before .before in
     let a = start .args in
     gives-is (ap (λ (r : Request). reply r (a .slot) (a .image .now) (a .msg .now)) (ap requestOf (at-match .match .keys2)))
-    (c .before .before .power-off .ensures (a .image .now))
+    (c .before .before .power-on .ensures)
 
 same-length-4 : tie.Need-same-length-4
 same-length-4 c = search needs
@@ -65,26 +74,22 @@ returns-3 c =
     let start = at-match .before .before .before .before .before in
     let a = start .args in
     gives-is (ap (λ (r : Request). reply r (a .slot) (a .image .now) (a .msg .now)) (ap requestOf (at-match .match .keys3)))
-    (c .before .before .slot-status .ensures (a .image .now))
+    (c .before .before .power-off .ensures (a .image .now))
 
 same-length-5 : tie.Need-same-length-5
 same-length-5 c = search needs
 
-same-length-6 : tie.Need-same-length-6
-same-length-6 c = search needs
-
 returns-4 : tie.Need-returns-4
 unfolding requestOf _⇒_⁏_
 returns-4 c =
-    let at-transfer = c .before .before .before .before in
-    let at-match = at-transfer .before .before .before in
+    let at-match = c .before .before .before .before in
     let start = at-match .before .before .before .before .before in
     let a = start .args in
     gives-is (ap (λ (r : Request). reply r (a .slot) (a .image .now) (a .msg .now)) (ap requestOf (at-match .match .keys4)))
-    (at-transfer .transfer .ensures)
+    (c .before .before .slot-status .ensures (a .image .now))
 
-same-length-7 : tie.Need-same-length-7
-same-length-7 c = search needs
+same-length-6 : tie.Need-same-length-6
+same-length-6 c = search needs
 
 returns-5 : tie.Need-returns-5
 unfolding requestOf _⇒_⁏_
@@ -92,8 +97,48 @@ returns-5 c =
     let at-match = c .before .before .before .before in
     let start = at-match .before .before .before .before .before in
     let a = start .args in
+    gives-is (ap (λ (r : Request). reply r (a .slot) (a .image .now) (a .msg .now)) (ap requestOf (at-match .match .keys5)))
+    (c .before .before .get-parameters .ensures (a .image .now))
+
+same-length-7 : tie.Need-same-length-7
+same-length-7 c = search needs
+
+returns-6 : tie.Need-returns-6
+unfolding requestOf _⇒_⁏_
+returns-6 c =
+    let at-match = c .before .before .before .before in
+    let start = at-match .before .before .before .before .before in
+    let a = start .args in
+    gives-is (ap (λ (r : Request). reply r (a .slot) (a .image .now) (a .msg .now)) (ap requestOf (at-match .match .keys6)))
+    (c .before .before .reset-parameters .ensures (a .image .now))
+
+same-length-8 : tie.Need-same-length-8
+same-length-8 c = search needs
+
+same-length-9 : tie.Need-same-length-9
+same-length-9 c = search needs
+
+returns-7 : tie.Need-returns-7
+unfolding requestOf _⇒_⁏_
+returns-7 c =
+    let at-match = c .before .before .before .before .before .before .before in
+    let start = at-match .before .before .before .before .before in
+    let a = start .args in
+    gives-is (ap (λ (r : Request). reply r (a .slot) (a .image .now) (a .msg .now)) (ap requestOf (at-match .match .keys7)))
+    (c .before .before .before .before .transfer .ensures)
+
+same-length-10 : tie.Need-same-length-10
+same-length-10 c = search needs
+
+returns-8 : tie.Need-returns-8
+unfolding requestOf _⇒_⁏_
+returns-8 c =
+    let at-match = c .before .before .before .before in
+    let start = at-match .before .before .before .before .before in
+    let a = start .args in
     gives-is (ap (λ (r : Request). reply r (a .slot) (a .image .now) (a .msg .now))
-    (⊎-elim (λ w. ap requestOf (w .keys5)) (λ w. let r = w .rest in other-type _ (r .0 .0 .0 .0 .1) (r .0 .0 .0 .1) (r .0 .0 .1) (r .0 .1))
+    (⊎-elim (λ w. ⊎-elim (ap requestOf) (ap requestOf) (w .keys8))
+    (λ w. let r = w .rest in other-type _ (r .0 .0 .0 .0 .0 .0 .0 .1) (r .0 .0 .0 .0 .0 .0 .1) (r .0 .0 .0 .0 .0 .1) (r .0 .0 .0 .0 .1) (r .0 .0 .0 .1) (r .0 .0 .1) (r .0 .1))
     (at-match .match .came))) (c .before .before .unsupported .ensures (a .image .now))
 
 pub handle-spec : {M : Type 1} → statement M
@@ -101,20 +146,29 @@ handle-spec =
     tie.close
     (tie.spec
     shared-slice-read-message-type
+    set-parameters-requires
     power-on-requires
     power-off-requires
     slot-status-requires
+    get-parameters-requires
+    reset-parameters-requires
     transfer-requires
     unsupported-requires
     same-length
-    same-length-2
     returns
+    same-length-2
     same-length-3
     returns-2
     same-length-4
     returns-3
     same-length-5
-    same-length-6
     returns-4
+    same-length-6
+    returns-5
     same-length-7
-    returns-5)
+    returns-6
+    same-length-8
+    same-length-9
+    returns-7
+    same-length-10
+    returns-8)

@@ -1,5 +1,7 @@
 -- `data_fits` meets its contract: each arm is its line of the table.
-use mathlib.Core.Path.{sym, ap}
+use borrow.Author.Needs.{needs}
+use mathlib.Core.Path.{sym, ap, _∙_}
+use mathlib.Core.Logic.{⊎-elim}
 use Prim.Native.Nat.{ℕ}
 use Rattle.words.specs.Choice.{_⇒_⁏_}
 use Rattle.faults.specs.Faults.{Request, requestOf, dataFits}
@@ -7,9 +9,12 @@ use Rattle.faults.proofs.TypeLaws.{other-type}
 use Rattle.faults.proofs.data_fits.Statement.{statement}
 use Rattle.faults.proofs.data_fits.Tie as tie
 
+set-length-requires : tie.Need-set-length-requires
+set-length-requires c κs = search needs
+
 returns : tie.Need-returns
 unfolding requestOf _⇒_⁏_
-returns c = sym (ap (λ (b : ℕ). dataFits (requestOf b) (c .before .args .n)) (c .match .keys1))
+returns c = c .set-length .ensures ∙ sym (ap (λ (b : ℕ). dataFits (requestOf b) (c .before .before .args .n)) (c .before .match .keys1))
 
 returns-2 : tie.Need-returns-2
 unfolding requestOf _⇒_⁏_
@@ -28,9 +33,34 @@ unfolding requestOf _⇒_⁏_
 returns-5 c = sym (ap (λ (b : ℕ). dataFits (requestOf b) (c .before .args .n)) (c .match .keys5))
 
 returns-6 : tie.Need-returns-6
-returns-6 c =
+unfolding requestOf _⇒_⁏_
+returns-6 c = sym (ap (λ (b : ℕ). dataFits (requestOf b) (c .before .args .n)) (c .match .keys6))
+
+returns-7 : tie.Need-returns-7
+unfolding requestOf _⇒_⁏_
+returns-7 c = sym (ap (λ (b : ℕ). dataFits (requestOf b) (c .before .args .n)) (c .match .keys7))
+
+returns-8 : tie.Need-returns-8
+unfolding requestOf _⇒_⁏_
+returns-8 c = sym (ap (λ (q : Request). dataFits q (c .before .args .n)) (⊎-elim (ap requestOf) (ap requestOf) (c .match .keys8)))
+
+returns-9 : tie.Need-returns-9
+returns-9 c =
     let r = c .match .rest in
-    sym (ap (λ (q : Request). dataFits q (c .before .args .n)) (other-type _ (r .0 .0 .0 .0 .1) (r .0 .0 .0 .1) (r .0 .0 .1) (r .0 .1)))
+    sym (ap (λ (q : Request). dataFits q (c .before .args .n))
+    (other-type _ (r .0 .0 .0 .0 .0 .0 .0 .1) (r .0 .0 .0 .0 .0 .0 .1) (r .0 .0 .0 .0 .0 .1) (r .0 .0 .0 .0 .1) (r .0 .0 .0 .1) (r .0 .0 .1) (r .0 .1)))
 
 pub data-fits-spec : {M : Type 1} → statement M
-data-fits-spec = tie.close (tie.spec returns returns-2 returns-3 returns-4 returns-5 returns-6)
+data-fits-spec =
+    tie.close
+    (tie.spec
+    set-length-requires
+    returns
+    returns-2
+    returns-3
+    returns-4
+    returns-5
+    returns-6
+    returns-7
+    returns-8
+    returns-9)

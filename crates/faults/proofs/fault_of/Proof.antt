@@ -2,7 +2,8 @@
 use borrow.Author.Needs.{needs}
 use mathlib.Core.Path.{sym, ap, _∙_}
 use borrow.Author.Tests.{not-true, not-false}
-use Rattle.faults.specs.Faults.{requestOf, dataFits, isClear}
+use Rattle.faults.specs.declared.Fault.{Fault}
+use Rattle.faults.specs.Faults.{requestOf, dataFits}
 use Rattle.faults.proofs.FaultLaws.{Free1, Free2, FreeType, Free3, Free4, free1, free2, free-type, free3, free4, free5, fault1, fault2, fault-type, fault3, fault4, fault5}
 use Rattle.faults.proofs.fault_of.Statement.{statement}
 use Rattle.faults.proofs.fault_of.Tie as tie
@@ -25,12 +26,9 @@ on-type c =
 on3 : (c : tie.Else4) → let a = c .before .before .before .before .before .before .before .before .before .args in Free3 (requestOf (a .message-type)) (a .slot) (a .msg .now)
 on3 c = free3 (on-type (c .before .before)) (c .if4 .left)
 
-on4 : (c : tie.Else5) → let a = c .before .before .before .before .before .before .before .before .before .before .before .before .args in
-    Free4 (requestOf (a .message-type))
-    (a .slot) (a .msg .now)
-on4 c =
-    free4 (on3 (c .before .before .before))
-    (sym (c .before .is-clear .ensures ∙ ap isClear (c .before .before .header-fault .ensures)) ∙ not-false _ (c .if5 .left))
+on4 : (c : tie.Else5) → let a = c .before .before .before .before .before .before .before .before .before .before .before .args in
+    Free4 (requestOf (a .message-type)) (a .slot) (a .msg .now)
+on4 c = free4 (on3 (c .before .before)) (sym (c .before .bad-field .ensures) ∙ c .if5 .left)
 
 is-supported-requires : tie.Need-is-supported-requires
 is-supported-requires c κs = search needs
@@ -64,16 +62,13 @@ shared-slice-read-if4 c = search needs
 returns-4 : tie.Need-returns-4
 returns-4 c = fault3 (on-type (c .before .before)) (c .if4 .taken)
 
-header-fault-requires : tie.Need-header-fault-requires
-header-fault-requires c κs = search needs
-
-is-clear-requires : tie.Need-is-clear-requires
-is-clear-requires c κs = search needs
+bad-field-requires : tie.Need-bad-field-requires
+bad-field-requires c κs = search needs
 
 returns-5 : tie.Need-returns-5
 returns-5 c =
-    let head = c .before .before .header-fault .ensures in
-    head ∙ fault4 (on3 (c .before .before .before)) (sym (c .before .is-clear .ensures ∙ ap isClear head) ∙ not-true _ (c .if5 .taken))
+    let field = c .before .bad-field .ensures in
+    ap Fault.Field field ∙ fault4 (on3 (c .before .before)) (λ e. c .if5 .taken (field ∙ e))
 
 is-ready-requires : tie.Need-is-ready-requires
 is-ready-requires c κs = search needs
@@ -97,8 +92,7 @@ fault-of-spec =
     returns-3
     shared-slice-read-if4
     returns-4
-    header-fault-requires
-    is-clear-requires
+    bad-field-requires
     returns-5
     is-ready-requires
     returns-6

@@ -1,8 +1,9 @@
 -- `is_supported` meets its contract: each arm is its line of the table.
 use mathlib.Core.Path.{sym, ap}
+use mathlib.Core.Logic.{⊎-elim}
 use Prim.Native.Nat.{ℕ}
 use Rattle.words.specs.Choice.{_⇒_⁏_}
-use Rattle.faults.specs.Faults.{requestOf, supported}
+use Rattle.faults.specs.Faults.{Request, requestOf, supported}
 use Rattle.faults.proofs.TypeLaws.{other-type}
 use Rattle.faults.proofs.is_supported.Statement.{statement}
 use Rattle.faults.proofs.is_supported.Tie as tie
@@ -28,9 +29,33 @@ unfolding requestOf _⇒_⁏_
 returns-5 c = sym (ap (λ (b : ℕ). supported (requestOf b)) (c .match .keys5))
 
 returns-6 : tie.Need-returns-6
-returns-6 c =
+unfolding requestOf _⇒_⁏_
+returns-6 c = sym (ap (λ (b : ℕ). supported (requestOf b)) (c .match .keys6))
+
+returns-7 : tie.Need-returns-7
+unfolding requestOf _⇒_⁏_
+returns-7 c = sym (ap (λ (b : ℕ). supported (requestOf b)) (c .match .keys7))
+
+returns-8 : tie.Need-returns-8
+unfolding requestOf _⇒_⁏_
+returns-8 c = sym (ap (λ (q : Request). supported q) (⊎-elim (ap requestOf) (ap requestOf) (c .match .keys8)))
+
+returns-9 : tie.Need-returns-9
+returns-9 c =
     let r = c .match .rest in
-    sym (ap supported (other-type _ (r .0 .0 .0 .0 .1) (r .0 .0 .0 .1) (r .0 .0 .1) (r .0 .1)))
+    sym (ap (λ (q : Request). supported q)
+    (other-type _ (r .0 .0 .0 .0 .0 .0 .0 .1) (r .0 .0 .0 .0 .0 .0 .1) (r .0 .0 .0 .0 .0 .1) (r .0 .0 .0 .0 .1) (r .0 .0 .0 .1) (r .0 .0 .1) (r .0 .1)))
 
 pub is-supported-spec : {M : Type 1} → statement M
-is-supported-spec = tie.close (tie.spec returns returns-2 returns-3 returns-4 returns-5 returns-6)
+is-supported-spec =
+    tie.close
+    (tie.spec
+    returns
+    returns-2
+    returns-3
+    returns-4
+    returns-5
+    returns-6
+    returns-7
+    returns-8
+    returns-9)

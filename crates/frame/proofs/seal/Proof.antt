@@ -48,8 +48,8 @@ returns c =
     let st : ℕ = cardState (bSlot m) (a .slot) in
     let status : at-status-of .status-of .result ≡ bStatus (a .fault) st =
     at-status-of .status-of .ensures ∙ ap (bStatus (a .fault)) (at-state-of .state-of .ensures .0) in
-    let last : at-last-of .last-of .result ≡ byte9 (a .answer-type) st =
-    at-last-of .last-of .ensures ∙ ap (byte9 (a .answer-type)) (at-state-of .state-of .ensures .0) in
+    let last : at-last-of .last-of .result ≡ byte9 (a .answer-type) (a .fault) st (a .slot) =
+    at-last-of .last-of .ensures ∙ ap (λ (x : ℕ). byte9 (a .answer-type) (a .fault) x (a .slot)) (at-state-of .state-of .ensures .0) in
     let hd : ℕ → ℕ → ℕ → List ℕ = λ x y z. over (header (a .answer-type) (a .len) (bSlot m) (bSeq m) x y z) (a .answer .now) in
     record {
       verdict = refl;

@@ -12,7 +12,7 @@ use Rattle.words.proofs.Lists.{lent-tail, tail-is}
 use Rattle.chips.specs.Kinds.{facts}
 use Rattle.card.proofs.ImageLaws.{card-parts}
 use Rattle.slot.specs.declared.Holds.{Holds}
-use Rattle.slot.specs.Slots.{powered}
+use Rattle.slot.specs.Slots.{powered, defaulted}
 use Rattle.sound.specs.Sound.{imageIsCard}
 use Rattle.orders.specs.Orders.{Deed}
 use Rattle.faults.specs.Faults.{PowerOn, requestOf}
@@ -91,6 +91,9 @@ answer-to-reset-requires c κs =
 power-requires : tie.Need-power-requires
 power-requires c κs = search needs
 
+reset-set-requires : tie.Need-reset-set-requires
+reset-set-requires c κs = search needs
+
 seal-requires-3 : tie.Need-seal-requires-3
 seal-requires-3 c κs = search needs
 
@@ -100,26 +103,26 @@ same-length-3 c = search needs
 returns-3 : tie.Need-returns-3
 unfolding deed requestOf _⇒_⁏_
 returns-3 c =
-    let at-power = c .before .before .before .before in
+    let at-reset-set = c .before .before .before .before in
+    let at-power = at-reset-set .before in
     let at-answer-to-reset = at-power .before .before .before in
     let at-holds = at-answer-to-reset .before .before .before in
     let at-if1 = at-holds .before .before in
     let at-is-clear = at-if1 .before in
     let at-fault-of = at-is-clear .before in
-    let at-before = at-fault-of .before .before .before in
-    let start =
-    c .before .before .before .before .before .before .before .before .before .before .before .before .before .before .before .before .before .before in
+    let start = at-fault-of .before .before .before .before in
     let a = start .args in
     let holds = at-holds .holds .given in
     let f = facts (holds .0 .0) in
     let im : List ℕ = a .image .now in
-    let d : Deed = record { said = reset f im; slot = powered true (a .slot); image = im } in
+    let d : Deed = record { said = reset f im; slot = defaulted (powered true (a .slot)); image = im } in
     let clear = sym (at-is-clear .is-clear .ensures) ∙ not-false _ (at-if1 .if1 .left) in
     let does = ap (λ (h : Holds). deed PowerOn h (a .slot) im (a .msg .now)) (holds .1) in
     let told = at-answer-to-reset .answer-to-reset .ensures in
+    let next = at-reset-set .reset-set .ensures ∙ ap defaulted (at-power .power .ensures) in
     gives-done PowerOn (a .slot) im (a .msg .now) (at-fault-of .fault-of .ensures) (a .answer .now) d clear does (told .0)
     (omega (arith, start .pre .1))
-    (lent-tail 10 (a .answer .now) (reset f im) (told .1)) refl (sealed-slot (at-power .power .ensures) (c .before .before .seal3 .ensures))
+    (lent-tail 10 (a .answer .now) (reset f im) (told .1)) refl (sealed-slot next (c .before .before .seal3 .ensures))
 
 pub power-on-spec : {M : Type 1} → statement M
 power-on-spec =
@@ -140,6 +143,7 @@ power-on-spec =
     part-answer-to-reset-end
     answer-to-reset-requires
     power-requires
+    reset-set-requires
     seal-requires-3
     same-length-3
     returns-3)

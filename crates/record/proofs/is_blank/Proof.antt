@@ -15,7 +15,7 @@ eight-at-requires c κs = search needs
 returns : tie.Need-returns
 returns c =
     let r = c .before .before .before .args .raw .now in
-    eight-more r 5 (omega arith) (λ e. c .if1 .taken (c .before .eight-at .ensures ∙ e))
+    eight-more r 13 (omega arith) (λ e. c .if1 .taken (c .before .eight-at .ensures ∙ e))
 
 eight-at-requires-2 : tie.Need-eight-at-requires-2
 eight-at-requires-2 c κs = search needs
@@ -23,41 +23,23 @@ eight-at-requires-2 c κs = search needs
 returns-2 : tie.Need-returns-2
 returns-2 c =
     let r = c .before .before .before .before .before .args .raw .now in
-    eight-more r 13 (omega arith) (λ e. c .if2 .taken (c .before .eight-at2 .ensures ∙ e))
-    ∙ eight-zero r 5 (omega arith) (sym (c .before .before .before .eight-at .ensures) ∙ c .before .before .if1 .left)
-
-eight-at-requires-3 : tie.Need-eight-at-requires-3
-eight-at-requires-3 c κs = search needs
-
-returns-3 : tie.Need-returns-3
-returns-3 c =
-    let r = c .before .before .before .before .before .before .before .args .raw .now in
-    eight-more r 21 (omega arith) (λ e. c .if3 .taken (c .before .eight-at3 .ensures ∙ e))
-    ∙ eight-zero r 13 (omega arith) (sym (c .before .before .before .eight-at2 .ensures) ∙ c .before .before .if2 .left)
-    ∙ eight-zero r 5 (omega arith) (sym (c .before .before .before .before .before .eight-at .ensures) ∙ c .before .before .before .before .if1 .left)
+    eight-more r 21 (omega arith) (λ e. c .if2 .taken (c .before .eight-at2 .ensures ∙ e))
+    ∙ eight-zero r 13 (omega arith) (sym (c .before .before .before .eight-at .ensures) ∙ c .before .before .if1 .left)
 
 four-at-requires : tie.Need-four-at-requires
 four-at-requires c κs = search needs
 
-returns-4 : tie.Need-returns-4
-returns-4 c =
-    let r = c .before .before .before .before .before .before .before .before .args .raw .now in
-    let z : eightAt r 21 ≡ 0 = sym (c .before .before .eight-at3 .ensures) ∙ c .before .if3 .left in
+returns-3 : tie.Need-returns-3
+returns-3 c =
+    let start = c .before .before .before .before .before .before in
+    let r = start .args .raw .now in
+    let z : eightAt r 21 ≡ 0 = sym (c .before .before .eight-at2 .ensures) ∙ c .before .if2 .left in
     ap (λ (n : ℕ). n is 0) (c .four-at .ensures)
-    ∙ blank-last r (c .before .before .before .before .before .before .before .before .pre) z
+    ∙ blank-last r (start .pre) z
     ∙ eight-zero r 21 (omega arith) z
-    ∙ eight-zero r 13 (omega arith) (sym (c .before .before .before .before .eight-at2 .ensures) ∙ c .before .before .before .if2 .left)
-    ∙ eight-zero r 5 (omega arith) (sym (c .before .before .before .before .before .before .eight-at .ensures) ∙ c .before .before .before .before .before .if1 .left)
+    ∙ eight-zero r 13 (omega arith) (sym (c .before .before .before .before .eight-at .ensures) ∙ c .before .before .before .if1 .left)
 
 pub is-blank-spec : {M : Type 1} → statement M
 is-blank-spec =
     tie.close
-    (tie.spec
-    eight-at-requires
-    returns
-    eight-at-requires-2
-    returns-2
-    eight-at-requires-3
-    returns-3
-    four-at-requires
-    returns-4)
+    (tie.spec eight-at-requires returns eight-at-requires-2 returns-2 four-at-requires returns-3)

@@ -3,7 +3,10 @@ use borrow.Author.Needs.{needs}
 use mathlib.Core.Path.{sym, ap, _∙_}
 use mathlib.Core.Bool.{not}
 use borrow.Author.Tests.{eq-eqb, ne-eqb, lt-ltb, le-ltb}
+use Rattle.words.specs.Choice.{_is_}
+use Rattle.words.specs.Bytes.{byte}
 use Rattle.words.proofs.Choices.{taken, passed}
+use Rattle.slot.specs.Slots.{slotted}
 use Rattle.record.specs.declared.Reading.{Reading}
 use Rattle.record.specs.Raw.{slotWith}
 use Rattle.record.proofs.read_with.Statement.{statement}
@@ -48,18 +51,23 @@ shared-slice-read-of c = search needs
 shared-slice-read-of-2 : tie.Need-shared-slice-read-of-2
 shared-slice-read-of-2 c = search needs
 
+eight-at-requires : tie.Need-eight-at-requires
+eight-at-requires c κs = search needs
+
 of-requires : tie.Need-of-requires
 of-requires c κs = search needs
 
 returns-5 : tie.Need-returns-5
 unfolding slotWith
 returns-5 c =
-    let on = c .before .before .before in
+    let on = c .before .before .before .before in
+    let a = on .before .before .before .before .before .before .before .before .args in
+    let r = a .raw .now in
     passed _ (ap not (eq-eqb _ 32 (on .before .before .before .before .before .before .if1 .left)))
     (passed _ (le-ltb 1 _ (on .before .before .before .before .if2 .left))
     (passed _ (le-ltb 1 _ (on .before .before .if3 .left))
     (passed _ (ap not (sym (on .before .is-blank .ensures)) ∙ on .if4 .left)
-    (ap Reading.Found (c .of .ensures)))))
+    (ap Reading.Found (c .of .ensures ∙ ap (slotted (a .holds) (byte r 1 is 1) (byte r 2) (byte r 3) (byte r 4 is 1)) (c .before .eight-at .ensures))))))
 
 pub read-with-spec : {M : Type 1} → statement M
 read-with-spec =
@@ -74,5 +82,6 @@ read-with-spec =
     returns-4
     shared-slice-read-of
     shared-slice-read-of-2
+    eight-at-requires
     of-requires
     returns-5)

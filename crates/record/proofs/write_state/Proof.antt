@@ -1,11 +1,12 @@
--- `write_state` meets its contract: four stores, as it says.
+-- `write_state` meets its contract: four stores, and the eight bytes of the parameters, as it says.
 use borrow.Author.Needs.{needs}
 use mathlib.Core.Path.{ap, _∙_}
 use native.Mathlib.Omega.{arith}
 use Prim.Native.Nat.{ℕ}
-use mathlib.Core.List.{List, [], _∷_}
-use lib.ListN.{length-set}
-use lib.Seq.{sets}
+use mathlib.Core.List.{List, _∷_}
+use lib.ListN.{length, length-set}
+use lib.Seq.{sets, length-sets}
+use Rattle.words.specs.Bytes.{lowFirst}
 use Rattle.record.specs.Raw.{flagOf}
 use Rattle.record.proofs.write_state.Statement.{statement}
 use Rattle.record.proofs.write_state.Tie as tie
@@ -26,16 +27,26 @@ flag-of-requires-2 : tie.Need-flag-of-requires-2
 flag-of-requires-2 c κs = search needs
 
 slice-write-raw-4 : tie.Need-slice-write-raw-4
-slice-write-raw-4 c = search needs
+slice-write-raw-4 c = simp length-set (omega arith)
+
+put-eight-requires : tie.Need-put-eight-requires
+put-eight-requires c κs = simp length-set (omega arith)
 
 same-length : tie.Need-same-length
-same-length c = search needs
+same-length c =
+    let a = c .before .before .before .before .before .before .before .args in
+    let on = c .before .before .before .before .before .flag-of .result in
+    let op = c .before .before .before .before .flag-of2 .result in
+    ap length (c .before .before .put-eight .ensures) ∙ length-sets (a .raw .now) 1 (on ∷ a .slot .selected ∷ a .slot .page ∷ op ∷ lowFirst 7 (a .slot .set))
 
 returns : tie.Need-returns
 returns c =
-    let s = c .before .before .before .args .slot in
-    let f : ℕ → ℕ → List ℕ = λ on op. sets (c .before .before .before .args .raw .now) 1 (on ∷ s .selected ∷ s .page ∷ op ∷ []) in
-    ap (λ (on : ℕ). f on (c .flag-of2 .result)) (c .before .flag-of .ensures) ∙ ap (f (flagOf (s .active))) (c .flag-of2 .ensures)
+    let a = c .before .before .before .before .before .before .before .args in
+    let s = a .slot in
+    let f : ℕ → ℕ → List ℕ = λ on op. sets (a .raw .now) 1 (on ∷ s .selected ∷ s .page ∷ op ∷ lowFirst 7 (s .set)) in
+    c .before .before .put-eight .ensures
+    ∙ ap (λ (on : ℕ). f on (c .before .before .before .before .flag-of2 .result)) (c .before .before .before .before .before .flag-of .ensures)
+    ∙ ap (f (flagOf (s .active))) (c .before .before .before .before .flag-of2 .ensures)
 
 pub write-state-spec : {M : Type 1} → statement M
 write-state-spec =
@@ -47,5 +58,6 @@ write-state-spec =
     slice-write-raw-3
     flag-of-requires-2
     slice-write-raw-4
+    put-eight-requires
     same-length
     returns)

@@ -1,11 +1,28 @@
--- `is_sound` meets its contract: the five tests are the rule's, in its order.
+-- `is_sound` meets its contract: the six tests are the rule's, in its order.
 use borrow.Author.Needs.{needs}
-use mathlib.Core.Path.{sym, _∙_}
+use mathlib.Core.Path.{_≡_, sym, _∙_}
+use mathlib.Core.Bool.{true}
 use borrow.Author.Tests.{not-true, not-false}
-use Rattle.words.proofs.Choices.{and-fails, and-holds, taken}
-use Rattle.sound.specs.Sound.{sound}
+use Rattle.words.proofs.Choices.{and-fails, and-holds}
+use Rattle.sound.specs.Sound.{pageSize, emptySound, idleSound, typeSound, openSound, sound}
 use Rattle.sound.proofs.is_sound.Statement.{statement}
 use Rattle.sound.proofs.is_sound.Tie as tie
+
+-- ---- a test that was passed
+past1 : (c : tie.Else1) → let a = c .before .before .before .args in pageSize (a .slot .page) ≡ true
+past1 c = sym (c .before .page-size .ensures) ∙ not-false _ (c .if1 .left)
+
+past2 : (c : tie.Else2) → let a = c .before .before .before .before .before .args in emptySound (a .slot) ≡ true
+past2 c = sym (c .before .empty-sound .ensures) ∙ not-false _ (c .if2 .left)
+
+past3 : (c : tie.Else3) → let a = c .before .before .before .before .before .before .before .args in idleSound (a .slot) ≡ true
+past3 c = sym (c .before .idle-sound .ensures) ∙ not-false _ (c .if3 .left)
+
+past4 : (c : tie.Else4) → let a = c .before .before .before .before .before .before .before .before .before .args in typeSound (a .slot) ≡ true
+past4 c = sym (c .before .type-sound .ensures) ∙ not-false _ (c .if4 .left)
+
+past5 : (c : tie.Else5) → let a = c .before .before .before .before .before .before .before .before .before .before .before .args in openSound (a .slot) (a .image .now) ≡ true
+past5 c = sym (c .before .open-sound .ensures) ∙ not-false _ (c .if5 .left)
 
 page-size-requires : tie.Need-page-size-requires
 page-size-requires c κs = search needs
@@ -20,9 +37,8 @@ empty-sound-requires c κs = search needs
 returns-2 : tie.Need-returns-2
 unfolding sound
 returns-2 c =
-    let at-page-size = c .before .before .before in
-    and-holds (sym (at-page-size .page-size .ensures) ∙ not-false _ (c .before .before .if1 .left))
-    (and-fails _ (sym (c .before .empty-sound .ensures) ∙ not-true _ (c .if2 .taken)))
+    let at-if1 = c .before .before in
+    and-holds (past1 at-if1) (and-fails _ (sym (c .before .empty-sound .ensures) ∙ not-true _ (c .if2 .taken)))
 
 idle-sound-requires : tie.Need-idle-sound-requires
 idle-sound-requires c κs = search needs
@@ -30,9 +46,9 @@ idle-sound-requires c κs = search needs
 returns-3 : tie.Need-returns-3
 unfolding sound
 returns-3 c =
-    and-holds (sym (c .before .before .before .before .before .page-size .ensures) ∙ not-false _ (c .before .before .before .before .if1 .left))
-    (and-holds (sym (c .before .before .before .empty-sound .ensures) ∙ not-false _ (c .before .before .if2 .left))
-    (and-fails _ (sym (c .before .idle-sound .ensures) ∙ not-true _ (c .if3 .taken))))
+    let at-if2 = c .before .before in
+    let at-if1 = at-if2 .before .before in
+    and-holds (past1 at-if1) (and-holds (past2 at-if2) (and-fails _ (sym (c .before .idle-sound .ensures) ∙ not-true _ (c .if3 .taken))))
 
 type-sound-requires : tie.Need-type-sound-requires
 type-sound-requires c κs = search needs
@@ -40,10 +56,10 @@ type-sound-requires c κs = search needs
 returns-4 : tie.Need-returns-4
 unfolding sound
 returns-4 c =
-    and-holds (sym (c .before .before .before .before .before .before .before .page-size .ensures) ∙ not-false _ (c .before .before .before .before .before .before .if1 .left))
-    (and-holds (sym (c .before .before .before .before .before .empty-sound .ensures) ∙ not-false _ (c .before .before .before .before .if2 .left))
-    (and-holds (sym (c .before .before .before .idle-sound .ensures) ∙ not-false _ (c .before .before .if3 .left))
-    (and-fails _ (sym (c .before .type-sound .ensures) ∙ not-true _ (c .if4 .taken)))))
+    let at-if3 = c .before .before in
+    let at-if2 = at-if3 .before .before in
+    let at-if1 = at-if2 .before .before in
+    and-holds (past1 at-if1) (and-holds (past2 at-if2) (and-holds (past3 at-if3) (and-fails _ (sym (c .before .type-sound .ensures) ∙ not-true _ (c .if4 .taken)))))
 
 open-sound-requires : tie.Need-open-sound-requires
 open-sound-requires c κs = search needs
@@ -51,16 +67,24 @@ open-sound-requires c κs = search needs
 returns-5 : tie.Need-returns-5
 unfolding sound
 returns-5 c =
-    let at-if3 = c .before .before .before in
-    let at-idle-sound = at-if3 .before in
-    let at-if2 = at-idle-sound .before in
-    let at-empty-sound = at-if2 .before in
-    let at-if1 = at-empty-sound .before in
-    let at-page-size = at-if1 .before in
-    and-holds (sym (at-page-size .page-size .ensures) ∙ not-false _ (at-if1 .if1 .left))
-    (and-holds (sym (at-empty-sound .empty-sound .ensures) ∙ not-false _ (at-if2 .if2 .left))
-    (and-holds (sym (at-idle-sound .idle-sound .ensures) ∙ not-false _ (at-if3 .if3 .left))
-    (and-holds (sym (c .before .before .type-sound .ensures) ∙ not-false _ (c .before .if4 .left)) (c .open-sound .ensures))))
+    let at-if4 = c .before .before in
+    let at-if3 = at-if4 .before .before in
+    let at-if2 = at-if3 .before .before in
+    let at-if1 = at-if2 .before .before in
+    and-holds (past1 at-if1) (and-holds (past2 at-if2) (and-holds (past3 at-if3) (and-holds (past4 at-if4) (and-fails _ (sym (c .before .open-sound .ensures) ∙ not-true _ (c .if5 .taken))))))
+
+set-sound-requires : tie.Need-set-sound-requires
+set-sound-requires c κs = search needs
+
+returns-6 : tie.Need-returns-6
+unfolding sound
+returns-6 c =
+    let at-if5 = c .before in
+    let at-if4 = at-if5 .before .before in
+    let at-if3 = at-if4 .before .before in
+    let at-if2 = at-if3 .before .before in
+    let at-if1 = at-if2 .before .before in
+    and-holds (past1 at-if1) (and-holds (past2 at-if2) (and-holds (past3 at-if3) (and-holds (past4 at-if4) (and-holds (past5 at-if5) (c .set-sound .ensures)))))
 
 pub is-sound-spec : {M : Type 1} → statement M
 is-sound-spec =
@@ -75,4 +99,6 @@ is-sound-spec =
     type-sound-requires
     returns-4
     open-sound-requires
-    returns-5)
+    returns-5
+    set-sound-requires
+    returns-6)

@@ -1,6 +1,9 @@
 //! The second program's own tests: answers worked out by hand from the paper.
 
+mod parameters;
+
 use second::case::Case;
+use second::parameters::Parameters;
 use second::reader::{self, Slot};
 use second::step::{Reader, INSERT, MESSAGE, REMOVE};
 
@@ -192,8 +195,8 @@ fn slot_status() {
 fn faults_in_their_order() {
     let mut host = Host::with(30, sle4442(7));
     // An unsupported type wins over all, and tells the state that bSlot means.
-    assert_eq!(host.raw("61 00000000 00 01 000000"), "0 81000000000001400000");
-    assert_eq!(host.raw("61 FFFFFFFF 05 01 000000"), "0 81000000000501420001");
+    assert_eq!(host.raw("69 00000000 00 01 000000"), "0 81000000000001400000");
+    assert_eq!(host.raw("69 FFFFFFFF 05 01 000000"), "0 81000000000501420001");
     // dwLength wins over bSlot, bSlot over bPowerSelect and wLevelParameter.
     assert_eq!(host.raw("62 01000000 05 01 04 0000"), "0 80000000000501420100");
     assert_eq!(host.raw("62 00000000 05 01 04 0000"), "0 80000000000501420500");
@@ -544,7 +547,8 @@ fn insertions() {
     assert_eq!(host.insert(20, &image), "in 3");
     assert_eq!(host.0.record(INSERT, &[]).unwrap(), "in 3");
     assert_eq!(host.insert(30, &sle4442(7)), "in 0");
-    assert_eq!(host.0.slot, Slot { kind: 30, active: false, selected: 0, page: 8, open: false });
+    let parameters = Parameters { protocol: 0, bytes: bytes("11 00 00 0A 00") };
+    assert_eq!(host.0.slot, Slot { kind: 30, active: false, selected: 0, page: 8, open: false, parameters });
     assert_eq!(host.insert(30, &sle4442(8)), "in 5");
     assert_eq!(host.insert(20, &sle4428(0xff)), "in 5");
     assert_eq!(host.0.record(INSERT, &[]).unwrap(), "in 5");
@@ -561,20 +565,22 @@ fn records_that_end_the_session() {
     assert!(reader.record(MESSAGE, &[0; 32769]).is_some());
 }
 
+/// A message over a slot and an image; turned down, it has changed nothing.
+fn try_it(slot: &Slot, image: &[u8], message: &[u8], buffer: usize) -> Result<usize, u8> {
+    let (mut slot_after, mut image_after, mut answer) = (slot.clone(), image.to_vec(), vec![0xc3; buffer]);
+    let result = reader::message(&mut slot_after, &mut image_after, message, &mut answer);
+    if result.is_err() {
+        assert_eq!(slot_after, *slot);
+        assert_eq!(image_after, image);
+        assert_eq!(answer, vec![0xc3; buffer]);
+    }
+    result
+}
+
 #[test]
 fn turned_down_messages_keep_every_byte() {
-    let sound = Slot { kind: 30, active: true, selected: 6, page: 8, open: true };
+    let sound = Slot { kind: 30, active: true, selected: 6, open: true, ..Slot::empty() };
     let status = bytes("65 00000000 00 00 000000");
-    let try_it = |slot: &Slot, image: &[u8], message: &[u8], buffer: usize| {
-        let (mut slot_after, mut image_after, mut answer) = (slot.clone(), image.to_vec(), vec![0xc3; buffer]);
-        let result = reader::message(&mut slot_after, &mut image_after, message, &mut answer);
-        if result.is_err() {
-            assert_eq!(slot_after, *slot);
-            assert_eq!(image_after, image);
-            assert_eq!(answer, vec![0xc3; buffer]);
-        }
-        result
-    };
     let odd = Slot { page: 7, ..sound.clone() };
     assert_eq!(try_it(&odd, &[], &status[..9], 270), Err(1));
     assert_eq!(try_it(&odd, &[], &status[..9], 271), Err(2));
@@ -614,7 +620,11 @@ fn any_bytes_at_all() {
             selected: [0, 1, 2, 5, 6, 6, next(256) as u8][next(7)],
             page: [8, 16, 32, 64, 128, 0, next(256) as u8][next(7)],
             open: next(2) == 0,
+            parameters: Parameters::default(),
         };
+        if next(4) == 0 {
+            slot.parameters = Parameters { protocol: next(3) as u8, bytes: vec![0x11; next(9)] };
+        }
         let mut image = vec![next(256) as u8; sizes[next(10)]];
         if image.len() > 261 {
             image[260] = 7;
@@ -625,6 +635,11 @@ fn any_bytes_at_all() {
             message[..11].copy_from_slice(&[0x6f, length, 0, 0, 0, 0, 0, 0, 0, 0, 0xff]);
             message[11] = [0xa4, 0x01, 0xb0, 0xb1, 0xb2, 0xd0, 0xd1, 0x20, 0xd2][next(9)];
             message[14] = [length - 5, next(256) as u8][next(2)];
+        }
+        if message.len() > 9 && next(3) == 0 {
+            let length = [0, 5, 7, next(9)][next(4)];
+            message.resize(10 + length, next(256) as u8);
+            message[..8].copy_from_slice(&[[0x61, 0x6c, 0x6d][next(3)], length as u8, 0, 0, 0, 0, 0, next(3) as u8]);
         }
         let mut answer = vec![0; [270, 271, 600][next(3)]];
         match reader::message(&mut slot, &mut image, &message, &mut answer) {
@@ -637,19 +652,18 @@ fn any_bytes_at_all() {
 #[test]
 fn trial_lines() {
     let mut case = Case {
-        record: [0; 32],
+        record: raw(&[30, 1, 6, 8, 0]),
         buffer: 272,
         fill: 0xee,
         message: bytes("6F 08000000 00 01 000000 FF 20 00 00 03 01 02 03"),
         image: sle4442(7),
     };
-    case.record[..5].copy_from_slice(&[30, 1, 6, 8, 0]);
-    let record = "1e01060800".to_string() + &"00".repeat(27);
+    let record = "1e01060800001100000a000000".to_string() + &"00".repeat(19);
     let buffer = "800200000000010000009006".to_string() + &"ee".repeat(260);
     assert_eq!(case.line(), format!("0 12 {} {} 0104=06", record, buffer));
     // A rest byte that is not 00h is 4, after 3, 2 and 1.
     case.record[31] = 1;
-    let record = "1e01060800".to_string() + &"00".repeat(26) + "01";
+    let record = "1e01060800001100000a000000".to_string() + &"00".repeat(18) + "01";
     assert_eq!(case.line(), format!("4 0 {} {}", record, "ee".repeat(272)));
     case.image.pop();
     assert_eq!(case.line(), format!("3 0 {} {}", record, "ee".repeat(272)));
@@ -658,12 +672,20 @@ fn trial_lines() {
     case.buffer = 0;
     assert_eq!(case.line(), format!("1 0 {} -", record));
     // With no card the image is not looked at.
-    case.record = [0; 32];
-    case.record[3] = 8;
+    case.record = raw(&[0, 0, 0, 8, 0]);
     case.buffer = 271;
     case.message = bytes("65 00000000 00 02 000000");
     let buffer = "81000000000002020001".to_string() + &"ee".repeat(261);
-    assert_eq!(case.line(), format!("0 10 {} {}", "00000008".to_string() + &"00".repeat(28), buffer));
+    let record = "0000000800001100000a000000".to_string() + &"00".repeat(19);
+    assert_eq!(case.line(), format!("0 10 {} {}", record, buffer));
     case.record[1] = 2;
     assert_eq!(&case.line()[..4], "4 0 ");
+}
+
+/// A raw record that begins so, with the default set.
+fn raw(first: &[u8; 5]) -> [u8; 32] {
+    let mut record = [0; 32];
+    record[..5].copy_from_slice(first);
+    record[5..11].copy_from_slice(&[0, 0x11, 0x00, 0x00, 0x0a, 0x00]);
+    record
 }

@@ -1,0 +1,20 @@
+-- `insert` meets its contract: a record of the rule's fields.
+use borrow.Author.Needs.{needs}
+use mathlib.Core.Path.{ap, _∙_}
+use mathlib.Core.Bool.{false}
+use Rattle.slot.specs.declared.Holds.{Holds}
+use Rattle.slot.specs.Slots.{slotted}
+use Rattle.slot.proofs.Slot.insert.Statement.{statement}
+use Rattle.slot.proofs.Slot.insert.Tie as tie
+
+default-set-requires : tie.Need-default-set-requires
+default-set-requires c κs = search needs
+
+of-requires : tie.Need-of-requires
+of-requires c κs = search needs
+
+returns : tie.Need-returns
+returns c = c .of .ensures ∙ ap (slotted (Holds.Card (c .before .before .args .chip)) false 0 8 false) (c .before .default-set .ensures)
+
+pub insert-spec : {M : Type 1} → statement M
+insert-spec = tie.close (tie.spec default-set-requires of-requires returns)
