@@ -24,7 +24,8 @@ use Rattle.faults.specs.declared.Fault.{Fault}
 use Rattle.frame.specs.declared.Refusal.{Refusal}
 use Rattle.frame.specs.declared.Verdict.{Verdict}
 use Rattle.frame.specs.declared.Reply.{Reply}
-use Rattle.faults.specs.Faults.{Request, SetParameters, PowerOn, PowerOff, SlotStatus, GetParameters, ResetParameters, Transfer, Unsupported, typeByte, apdu, bSlot, bSeq, requestOf, faultOf, isClear}
+use Rattle.faults.specs.Faults.{Request, SetParameters, PowerOn, PowerOff, SlotStatus, GetParameters, ResetParameters, Transfer, Unsupported}
+use Rattle.faults.specs.Faults.{typeByte, apdu, bSlot, bSeq, requestOf, faultOf, isClear}
 use Rattle.frame.specs.Answers.{bError, cardState, bStatus, byte9, header, answer}
 
 -- "Turned down without an answer": the numbers of the table

@@ -11,7 +11,8 @@ use Rattle.slot.specs.declared.Slot.{Slot}
 use Rattle.sound.specs.Sound.{imageIsCard, sound}
 use Rattle.steps.specs.Steps.{order, presents}
 use Rattle.faults.specs.declared.Fault.{Fault}
-use Rattle.faults.specs.Faults.{Request, SetParameters, PowerOn, PowerOff, SlotStatus, GetParameters, ResetParameters, Transfer, Unsupported, typeByte, apdu, requestOf, faultOf, isClear}
+use Rattle.faults.specs.Faults.{Request, SetParameters, PowerOn, PowerOff, SlotStatus, GetParameters, ResetParameters, Transfer, Unsupported}
+use Rattle.faults.specs.Faults.{typeByte, apdu, requestOf, faultOf, isClear}
 use Rattle.reader.specs.Runs.{Sent}
 
 -- what the message asks for, and what is wrong with it

@@ -15,26 +15,31 @@ setWith protocol bytes = numberOf (protocol ∷ bytes)
 unfoldable pub defaultSet : ℕ
 defaultSet = setWith 0 (0x11 ∷ 0x00 ∷ 0x00 ∷ 0x0A ∷ 0x00 ∷ [])
 
--- the bytes by their names in the layouts
+-- bProtocolNum; then the bytes by their offsets and names in the layouts. Offset 12, the guard time, is asked nothing
 abbrev pub protocolOf : ℕ → ℕ
 protocolOf set = part set 0
 
--- bmFindexDindex: FI in the upper four bits, DI in the lower
+-- 10, bmFindexDindex: FI in the upper four bits, DI in the lower
 abbrev pub factors : ℕ → ℕ
 factors set = part set 1
 
+-- 11, bmTCCKST0 and bmTCCKST1
 abbrev pub checksum : ℕ → ℕ
 checksum set = part set 2
 
+-- 13, bWaitingIntegerT0 and bWaitingIntegerT1
 abbrev pub waiting : ℕ → ℕ
 waiting set = part set 4
 
+-- 14, bClockStop
 abbrev pub clockStop : ℕ → ℕ
 clockStop set = part set 5
 
+-- 15, bIFSC
 abbrev pub ifsc : ℕ → ℕ
 ifsc set = part set 6
 
+-- 16, bNadValue
 abbrev pub nad : ℕ → ℕ
 nad set = part set 7
 

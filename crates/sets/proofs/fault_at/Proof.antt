@@ -7,7 +7,7 @@ use borrow.Author.Tests.{eq-eqb, ne-eqb, lt-ltb, le-ltb, not-true, not-false}
 use lib.Dec.{ltb}
 use Rattle.words.specs.Choice.{_isnt_}
 use Rattle.words.proofs.Choices.{taken, passed}
-use Rattle.sets.specs.Sets.{protocolOf, factors, checksum, waiting, clockStop, nad, fitsLength, reservedFI, reservedDI, upperBits, longWait, faultAt}
+use Rattle.sets.specs.Sets.{protocolOf, factors, checksum, waiting, clockStop, fitsLength, reservedFI, reservedDI, upperBits, longWait, faultAt}
 use Rattle.sets.proofs.fault_at.Statement.{statement}
 use Rattle.sets.proofs.fault_at.Tie as tie
 

@@ -1,11 +1,6 @@
 -- `fits_length` meets its contract: its tests are the rule's.
-use mathlib.Core.Path.{refl, sym, ap, _∙_}
-use mathlib.Core.Bool.{Bool}
-use Prim.Native.Nat.{ℕ}
-use borrow.Author.Tests.{eq-eqb, ne-eqb}
-use Rattle.words.specs.Choice.{_and_, _or_, _is_}
-use Rattle.words.proofs.Choices.{or-passed, and-fails}
-use Rattle.sets.specs.Sets.{fitsLength}
+use mathlib.Core.Path.{sym}
+use Rattle.words.specs.Choice.{_or_}
 use Rattle.sets.proofs.SetLaws.{fits-none, fits-one, fits-other}
 use Rattle.sets.proofs.fits_length.Statement.{statement}
 use Rattle.sets.proofs.fits_length.Tie as tie

@@ -1,7 +1,7 @@
 -- `length_of` meets its contract: its tests are the rule's.
 use borrow.Author.Needs.{needs}
 use mathlib.Core.Path.{_≡_, refl, sym, _∙_}
-use mathlib.Core.Bool.{true, false}
+use mathlib.Core.Bool.{true}
 use borrow.Author.Tests.{eq-eqb, ne-eqb}
 use Rattle.words.specs.Choice.{_is_}
 use Rattle.words.specs.Bytes.{part}

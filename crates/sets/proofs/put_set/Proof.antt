@@ -8,7 +8,7 @@ use Prim.Native.Nat.{ℕ, _-_, _≤_, _<_}
 use lib.ListN.{length, set, length-set}
 use Rattle.words.specs.Bytes.{over, part, series}
 use Rattle.words.proofs.Lists.{over-none, length-series, series-more}
-use Rattle.sets.specs.Sets.{lengthOf, bytesOf}
+use Rattle.sets.specs.Sets.{lengthOf}
 use Rattle.sets.proofs.SetLaws.{length-short}
 use Rattle.sets.proofs.put_set.Statement.{statement}
 use Rattle.sets.proofs.put_set.Tie as tie

@@ -71,7 +71,8 @@ returns-5 c =
     let at-if3 = at-if4 .before .before in
     let at-if2 = at-if3 .before .before in
     let at-if1 = at-if2 .before .before in
-    and-holds (past1 at-if1) (and-holds (past2 at-if2) (and-holds (past3 at-if3) (and-holds (past4 at-if4) (and-fails _ (sym (c .before .open-sound .ensures) ∙ not-true _ (c .if5 .taken))))))
+    and-holds (past1 at-if1) (and-holds (past2 at-if2) (and-holds (past3 at-if3) (and-holds (past4 at-if4)
+    (and-fails _ (sym (c .before .open-sound .ensures) ∙ not-true _ (c .if5 .taken))))))
 
 set-sound-requires : tie.Need-set-sound-requires
 set-sound-requires c κs = search needs
@@ -84,7 +85,8 @@ returns-6 c =
     let at-if3 = at-if4 .before .before in
     let at-if2 = at-if3 .before .before in
     let at-if1 = at-if2 .before .before in
-    and-holds (past1 at-if1) (and-holds (past2 at-if2) (and-holds (past3 at-if3) (and-holds (past4 at-if4) (and-holds (past5 at-if5) (c .set-sound .ensures)))))
+    and-holds (past1 at-if1) (and-holds (past2 at-if2) (and-holds (past3 at-if3) (and-holds (past4 at-if4)
+    (and-holds (past5 at-if5) (c .set-sound .ensures)))))
 
 pub is-sound-spec : {M : Type 1} → statement M
 is-sound-spec =
