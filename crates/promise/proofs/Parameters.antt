@@ -4,10 +4,11 @@ use mathlib.Core.Path.{_≡_, refl, sym, ap, ap₂, _∙_}
 use mathlib.Core.Bool.{true, false, false≢true}
 use mathlib.Core.List.{List, [], _∷_}
 use Rattle.words.specs.Choice.{_⇒_⁏_}
-use Rattle.words.specs.Bytes.{AllBytes, byte}
+use Rattle.words.specs.Bytes.{AllBytes, byte, over}
 use Rattle.words.specs.Bounds.{leastRoom}
 use Rattle.words.proofs.Numbers.{areBytes, are-bytes}
-use lib.ListN.{replicate}
+use lib.ListN.{take, replicate}
+use lib.IntN.{ℤ}
 use Rattle.words.proofs.Choices.{first, rest, and-true, same-choice}
 use Rattle.chips.specs.Kinds.{facts}
 use Rattle.chips.specs.declared.Chip.the-variants.{Sle4442}
@@ -23,7 +24,7 @@ use Rattle.orders.proofs.SlotKept.{slotBy-set}
 use Rattle.faults.specs.declared.Fault.{Fault}
 use Rattle.faults.specs.Faults.{Request, SetParameters, PowerOn, PowerOff, SlotStatus, GetParameters, ResetParameters, Transfer, Unsupported, apdu, ready, badField}
 use Rattle.frame.specs.Answers.{answer, byte9, bStatus}
-use Rattle.frame.specs.Exchange.{Outcome, deed, answered, insertion}
+use Rattle.frame.specs.Exchange.{Outcome, deed, answered, exchange, insertion}
 use Rattle.reader.specs.Runs.{Sent, Run, sending, run}
 use Rattle.reader.specs.Rules.{rules}
 use Rattle.reader.specs.Heard.{requested, faulted, heard}
@@ -31,6 +32,14 @@ use Rattle.reader.proofs.Came.{Came, down, failed, obeyed, came, heard-clear, c
 use Rattle.reader.proofs.Insertions.{insertion-inserts}
 use Rattle.promise.proofs.Reached.{heard-does}
 use Rattle.vectors.specs.Sessions.{lent, transfer, image4442, wrong4442}
+use Rattle.record.specs.Raw.{rawOf}
+use Rattle.records.specs.declared.Mark.{Mark}
+use Rattle.sitting.specs.declared.Held.{Held}
+use Rattle.sitting.specs.declared.Done.{Done}
+use Rattle.sitting.specs.Sittings.{outcomeOf, Leaves}
+use Rattle.calls.specs.Calls.{RawOutcome, rawExchange, Returns}
+use Rattle.promise.specs.Sequences.{Called, Sat}
+use Rattle.promise.proofs.Sequences.{raw-exchange-is, called-run, sat-run}
 use Rattle.promise.specs.Parameters.{setBy, setAfter, leaves, allLeave, telling}
 
 -- ---- which message changes them
@@ -120,6 +129,33 @@ took-told s image m ms g b e h l k n =
     ap (λ (r : Request). badField r (m .message)) (sym e) ∙ clear-field (requested m) s (m .message) (heard-clear s image m h) in
     get-tells (u .slot) (u .image) g k n
     ∙ ap₂ (telling (g .message) (u .slot)) (ap protocolOf stands ∙ named-protocol (m .message) b) (ap bytesOf stands ∙ named-bytes (m .message) b field)
+
+-- ---- and so by calls: what stands in the answer buffer after a call of `card_reader_message`, or after `sitting::perform`
+module _ (s : Slot) (image : List ℕ) (m : Sent) (ms : List Sent) (g : Sent) (b : AllBytes (m .message)) (e : requested m ≡ SetParameters)
+    (h : heard s image m ≡ true) (l : allLeave ms ≡ true) where
+  abbrev after : Run
+  after = run s image (m ∷ ms)
+
+  pub calls-told : {r′ image′ : List ℕ} → Called (rawOf s) image (m ∷ ms) r′ image′ → requested g ≡ GetParameters → heard (after .slot) (after .image) g ≡ true
+      → {n : ℤ} {left next was holds : List ℕ} → Returns (rawExchange r′ image′ (g .message) (g .room)) n left next was holds
+      → holds ≡ over (telling (g .message) (after .slot) (byte (m .message) 7) (apdu (m .message))) was
+  unfolding run
+  calls-told {r′} {image′} calls k n {was = was} given =
+      let c = called-run calls s image refl refl in
+      let met = ap₂ (λ (r i : List ℕ). rawExchange r i (g .message) (g .room) .answer) (c .0) (c .1) in
+      let told = ap (λ (o : RawOutcome). o .answer) (raw-exchange-is (after .slot) (after .image) (g .message) (g .room)) in
+      given .buffer ∙ ap (λ (a : List ℕ). over a was) (met ∙ told ∙ took-told s image m ms g b e h l k n)
+
+  pub sittings-told : {before : Held} {had : List ℕ} → before .slot ≡ s → take (before .size) had ≡ image → {held : Held} {stored : List ℕ}
+      → Sat before had (m ∷ ms) held stored → g .room ≡ leastRoom → requested g ≡ GetParameters → heard (after .slot) (after .image) g ≡ true
+      → {d : Done} {left was holds : List ℕ} → Leaves (outcomeOf Mark.Message (g .message) (held .slot) (take (held .size) stored) leastRoom) d stored left was holds
+      → holds ≡ over (telling (g .message) (after .slot) (byte (m .message) 7) (apdu (m .message))) was
+  unfolding run outcomeOf
+  sittings-told p q {held} {stored} sits room k n {was = was} given =
+      let c = sat-run sits s image p q in
+      let met = ap₂ (λ (t : Slot) (i : List ℕ). exchange t i (g .message) leastRoom .answer) (c .0) (c .1) in
+      let lent = ap (λ (x : ℕ). exchange (after .slot) (after .image) (g .message) x .answer) (sym room) in
+      given .buffer ∙ ap (λ (a : List ℕ). over a was) (met ∙ lent ∙ took-told s image m ms g b e h l k n)
 
 -- ---- a visit that meets the hypotheses: T=1 is set, the card is powered off, asked for its status, a code is sent that fails, and it is asked
 abbrev pub setT1 : Sent
