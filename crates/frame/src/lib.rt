@@ -120,7 +120,7 @@ fn protocol_of(fault: Fault, slot: Slot) -> u8
     ensures { λ r. ⌜ r ≡ (isClear fault ⇒ protocolOf (slot .set) ⁏ 0) ⌝ }
 {
     if is_clear(fault) {
-        return words::part(slot.set, 0);
+        return words::byte_of(slot.set, 0);
     }
     0
 }

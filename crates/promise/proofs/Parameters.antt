@@ -40,7 +40,7 @@ use Rattle.sitting.specs.Sittings.{outcomeOf, Leaves}
 use Rattle.calls.specs.Calls.{RawOutcome, rawExchange, Returns}
 use Rattle.promise.specs.Sequences.{Called, Sat}
 use Rattle.promise.proofs.Sequences.{raw-exchange-is, called-run, sat-run}
-use Rattle.promise.specs.Parameters.{setBy, setAfter, leaves, allLeave, telling}
+use Rattle.promise.specs.Parameters.{setBy, setAfter, leavesSet, allLeave, tellsSet}
 
 -- ---- which message changes them
 deed-set : (r : Request) (h : Holds) (s : Slot) (image m : List ℕ) → s .holds ≡ h → ready r s ≡ true → deed r h s image m .slot .set ≡ setBy r m (s .set)
@@ -69,7 +69,7 @@ module _ (s : Slot) (image : List ℕ) (m : Sent) where
   set-after = came-set (came s image m)
 
   -- a message but 61h, 62h, 6Dh leaves them
-  by-leaver : (r : Request) (t : ℕ) → leaves r ≡ true → setBy r (m .message) t ≡ t
+  by-leaver : (r : Request) (t : ℕ) → leavesSet r ≡ true → setBy r (m .message) t ≡ t
   by-leaver SetParameters t e = absurd (false≢true e)
   by-leaver PowerOn t e = absurd (false≢true e)
   by-leaver PowerOff t e = refl
@@ -79,7 +79,7 @@ module _ (s : Slot) (image : List ℕ) (m : Sent) where
   by-leaver Transfer t e = refl
   by-leaver Unsupported t e = refl
 
-  pub leaver-leaves : leaves (requested m) ≡ true → sending s image m .slot .set ≡ s .set
+  pub leaver-leaves : leavesSet (requested m) ≡ true → sending s image m .slot .set ≡ s .set
   unfolding setAfter
   leaver-leaves e = set-after ∙ same-choice (heard s image m) (by-leaver (requested m) (s .set) e)
 
@@ -101,7 +101,7 @@ run-leaves s image (m ∷ ms) e =
 
 -- GetParameters tells what stands
 pub get-tells : (s : Slot) (image : List ℕ) (g : Sent) → requested g ≡ GetParameters → heard s image g ≡ true
-    → sending s image g .answer ≡ telling (g .message) s (protocolOf (s .set)) (bytesOf (s .set))
+    → sending s image g .answer ≡ tellsSet (g .message) s (protocolOf (s .set)) (bytesOf (s .set))
 unfolding deed answer byte9 bStatus _⇒_⁏_
 get-tells s image g e h =
     let clear : faulted s g ≡ Fault.Clear = clear-is (faulted s g) (heard-clear s image g h) in
@@ -121,40 +121,40 @@ pub took-told : (s : Slot) (image : List ℕ) (m : Sent) (ms : List Sent) (g : S
     → requested m ≡ SetParameters → heard s image m ≡ true → allLeave ms ≡ true
     → let u = run (sending s image m .slot) (sending s image m .image) ms in
     requested g ≡ GetParameters → heard (u .slot) (u .image) g ≡ true
-    → sending (u .slot) (u .image) g .answer ≡ telling (g .message) (u .slot) (byte (m .message) 7) (apdu (m .message))
+    → sending (u .slot) (u .image) g .answer ≡ tellsSet (g .message) (u .slot) (byte (m .message) 7) (apdu (m .message))
 took-told s image m ms g b e h l k n =
     let u = run (sending s image m .slot) (sending s image m .image) ms in
     let stands : u .slot .set ≡ setOf (m .message) = run-leaves (sending s image m .slot) (sending s image m .image) ms l ∙ set-stored s image m e h in
     let field : badField SetParameters (m .message) ≡ 0 =
     ap (λ (r : Request). badField r (m .message)) (sym e) ∙ clear-field (requested m) s (m .message) (heard-clear s image m h) in
     get-tells (u .slot) (u .image) g k n
-    ∙ ap₂ (telling (g .message) (u .slot)) (ap protocolOf stands ∙ named-protocol (m .message) b) (ap bytesOf stands ∙ named-bytes (m .message) b field)
+    ∙ ap₂ (tellsSet (g .message) (u .slot)) (ap protocolOf stands ∙ named-protocol (m .message) b) (ap bytesOf stands ∙ named-bytes (m .message) b field)
 
 -- ---- and so by calls: what stands in the answer buffer after a call of `card_reader_message`, or after `sitting::perform`
 module _ (s : Slot) (image : List ℕ) (m : Sent) (ms : List Sent) (g : Sent) (b : AllBytes (m .message)) (e : requested m ≡ SetParameters)
     (h : heard s image m ≡ true) (l : allLeave ms ≡ true) where
-  abbrev after : Run
-  after = run s image (m ∷ ms)
+  abbrev lastly : Run
+  lastly = run s image (m ∷ ms)
 
-  pub calls-told : {r′ image′ : List ℕ} → Called (rawOf s) image (m ∷ ms) r′ image′ → requested g ≡ GetParameters → heard (after .slot) (after .image) g ≡ true
+  pub calls-told : {r′ image′ : List ℕ} → Called (rawOf s) image (m ∷ ms) r′ image′ → requested g ≡ GetParameters → heard (lastly .slot) (lastly .image) g ≡ true
       → {n : ℤ} {left next was holds : List ℕ} → Returns (rawExchange r′ image′ (g .message) (g .room)) n left next was holds
-      → holds ≡ over (telling (g .message) (after .slot) (byte (m .message) 7) (apdu (m .message))) was
+      → holds ≡ over (tellsSet (g .message) (lastly .slot) (byte (m .message) 7) (apdu (m .message))) was
   unfolding run
   calls-told {r′} {image′} calls k n {was = was} given =
       let c = called-run calls s image refl refl in
       let met = ap₂ (λ (r i : List ℕ). rawExchange r i (g .message) (g .room) .answer) (c .0) (c .1) in
-      let told = ap (λ (o : RawOutcome). o .answer) (raw-exchange-is (after .slot) (after .image) (g .message) (g .room)) in
+      let told = ap (λ (o : RawOutcome). o .answer) (raw-exchange-is (lastly .slot) (lastly .image) (g .message) (g .room)) in
       given .buffer ∙ ap (λ (a : List ℕ). over a was) (met ∙ told ∙ took-told s image m ms g b e h l k n)
 
   pub sittings-told : {before : Held} {had : List ℕ} → before .slot ≡ s → take (before .size) had ≡ image → {held : Held} {stored : List ℕ}
-      → Sat before had (m ∷ ms) held stored → g .room ≡ leastRoom → requested g ≡ GetParameters → heard (after .slot) (after .image) g ≡ true
+      → Sat before had (m ∷ ms) held stored → g .room ≡ leastRoom → requested g ≡ GetParameters → heard (lastly .slot) (lastly .image) g ≡ true
       → {d : Done} {left was holds : List ℕ} → Leaves (outcomeOf Mark.Message (g .message) (held .slot) (take (held .size) stored) leastRoom) d stored left was holds
-      → holds ≡ over (telling (g .message) (after .slot) (byte (m .message) 7) (apdu (m .message))) was
+      → holds ≡ over (tellsSet (g .message) (lastly .slot) (byte (m .message) 7) (apdu (m .message))) was
   unfolding run outcomeOf
   sittings-told p q {held} {stored} sits room k n {was = was} given =
       let c = sat-run sits s image p q in
       let met = ap₂ (λ (t : Slot) (i : List ℕ). exchange t i (g .message) leastRoom .answer) (c .0) (c .1) in
-      let lent = ap (λ (x : ℕ). exchange (after .slot) (after .image) (g .message) x .answer) (sym room) in
+      let lent = ap (λ (x : ℕ). exchange (lastly .slot) (lastly .image) (g .message) x .answer) (sym room) in
       given .buffer ∙ ap (λ (a : List ℕ). over a was) (met ∙ lent ∙ took-told s image m ms g b e h l k n)
 
 -- ---- a visit that meets the hypotheses: T=1 is set, the card is powered off, asked for its status, a code is sent that fails, and it is asked

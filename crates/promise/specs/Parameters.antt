@@ -27,20 +27,20 @@ unfoldable pub setAfter : Slot → List ℕ → Sent → ℕ
 setAfter s image m = heard s image m ⇒ setBy (requested m) (m .message) (s .set) ⁏ s .set
 
 -- a message but 61h, 62h, 6Dh, and a run of such
-abbrev pub leaves : Request → Bool
-leaves SetParameters = false
-leaves PowerOn = false
-leaves PowerOff = true
-leaves SlotStatus = true
-leaves GetParameters = true
-leaves ResetParameters = false
-leaves Transfer = true
-leaves Unsupported = true
+abbrev pub leavesSet : Request → Bool
+leavesSet SetParameters = false
+leavesSet PowerOn = false
+leavesSet PowerOff = true
+leavesSet SlotStatus = true
+leavesSet GetParameters = true
+leavesSet ResetParameters = false
+leavesSet Transfer = true
+leavesSet Unsupported = true
 
 unfoldable pub allLeave : List Sent → Bool
 allLeave [] = true
-allLeave (m ∷ ms) = leaves (requested m) and allLeave ms
+allLeave (m ∷ ms) = leavesSet (requested m) and allLeave ms
 
 -- the answer to a GetParameters message g without a fault that tells a protocol number and its bytes, s being the slot
-abbrev pub telling : List ℕ → Slot → ℕ → List ℕ → List ℕ
-telling g s protocol bytes = header 0x82 (length bytes) (bSlot g) (bSeq g) (cardState (bSlot g) s) 0x00 protocol ++ bytes
+abbrev pub tellsSet : List ℕ → Slot → ℕ → List ℕ → List ℕ
+tellsSet g s protocol bytes = header 0x82 (length bytes) (bSlot g) (bSeq g) (cardState (bSlot g) s) 0x00 protocol ++ bytes

@@ -9,10 +9,10 @@ use native.Mathlib.Omega.{arith}
 use lib.ListN.{length, drop, List·getD-eq-default}
 use borrow.Author.Tests.{eq-eqb, ne-eqb, eqb-true, not-false}
 use Rattle.words.specs.Choice.{_⇒_⁏_, _and_, _or_, _is_}
-use Rattle.words.specs.Bytes.{AllBytes, byte, numberOf, part, series}
+use Rattle.words.specs.Bytes.{AllBytes, byte, numberIn, byteOf, series}
 use Rattle.words.proofs.Choices.{either, first, rest, and-true, and-fails, or-true, or-end, both}
 use Rattle.words.proofs.Lists.{length-series, series-part, series-at, tail-is}
-use Rattle.words.proofs.Numbers.{part-number}
+use Rattle.words.proofs.Numbers.{byte-number}
 use Rattle.sets.specs.Sets.{setWith, defaultSet, protocolOf, ifsc, nad, lengthOf, bytesOf, fitsLength, reservedFI, reservedDI, longWait, faultAt, setOf, takes}
 
 -- ---- the lengths that fit
@@ -38,7 +38,7 @@ unfolding lengthOf
 length-some t = either (λ (n : ℕ). 5 ≤ n) _ (λ _. omega arith) (λ _. omega arith)
 
 pub bytes-short : (t : ℕ) → length (bytesOf t) ≤ 7
-bytes-short t = omega (arith, length-series (part t) 1 (lengthOf t), length-short t)
+bytes-short t = omega (arith, length-series (byteOf t) 1 (lengthOf t), length-short t)
 
 -- ---- a message's set
 -- byte k of it is byte k + 9 of the message; beyond the message's end there is nothing
@@ -47,11 +47,11 @@ behind m k h = ap (λ (x : ℕ). x % 256) (List·getD-eq-default m 0 {n = k} h)
 
 named-ifsc : (m : List ℕ) → length m ≤ 15 → ifsc (setOf m) ≡ 0
 unfolding setOf setWith series
-named-ifsc m h = part-number (byte m 7 ∷ series (byte m) 10 7) 6 ∙ behind m 15 h
+named-ifsc m h = byte-number (byte m 7 ∷ series (byte m) 10 7) 6 ∙ behind m 15 h
 
 named-nad : (m : List ℕ) → length m ≤ 16 → nad (setOf m) ≡ 0
 unfolding setOf setWith series
-named-nad m h = part-number (byte m 7 ∷ series (byte m) 10 7) 7 ∙ behind m 16 h
+named-nad m h = byte-number (byte m 7 ∷ series (byte m) 10 7) 7 ∙ behind m 16 h
 
 -- where its protocol number fits the length of the data, that is the length of the set
 pub named-length : (m : List ℕ) → fitsLength (protocolOf (setOf m)) (length m - 10) ≡ true → lengthOf (setOf m) ≡ length m - 10
@@ -85,25 +85,25 @@ named-taken m e =
 -- a message of bytes names its protocol number and its bytes, all of them
 pub named-protocol : (m : List ℕ) → AllBytes m → protocolOf (setOf m) ≡ byte m 7
 unfolding setOf setWith series
-named-protocol m b = part-number (byte m 7 ∷ series (byte m) 10 7) 0 ∙ mod-eq-of-lt (b .fits 7)
+named-protocol m b = byte-number (byte m 7 ∷ series (byte m) 10 7) 0 ∙ mod-eq-of-lt (b .fits 7)
 
-named-byte : (m : List ℕ) → AllBytes m → (j : ℕ) → j < 7 → part (setOf m) (1 + j) ≡ byte m (10 + j)
+named-byte : (m : List ℕ) → AllBytes m → (j : ℕ) → j < 7 → byteOf (setOf m) (1 + j) ≡ byte m (10 + j)
 unfolding setOf setWith
 named-byte m b j h =
     let e : 1 + j ≡ suc j = omega arith in
-    ap (part (setOf m)) e
-    ∙ part-number (byte m 7 ∷ series (byte m) 10 7) (suc j)
+    ap (byteOf (setOf m)) e
+    ∙ byte-number (byte m 7 ∷ series (byte m) 10 7) (suc j)
     ∙ ap (λ (x : ℕ). x % 256) (series-at (byte m) 10 7 j h)
     ∙ mod-eq-of-lt (b .fits (10 + j))
 
 pub named-bytes : (m : List ℕ) → AllBytes m → faultAt (setOf m) (length m - 10) ≡ 0 → bytesOf (setOf m) ≡ drop 10 m
 named-bytes m b e =
     let n : lengthOf (setOf m) ≡ length m - 10 = named-length m (fault-fits (setOf m) (length m - 10) .fits e) in
-    ap (series (part (setOf m)) 1) n
-    ∙ series-part (part (setOf m)) 1 10 (length m - 10) m (omega (arith, n, length-some (setOf m))) (λ j h. named-byte m b j (omega (arith, n, length-short (setOf m))))
+    ap (series (byteOf (setOf m)) 1) n
+    ∙ series-part (byteOf (setOf m)) 1 10 (length m - 10) m (omega (arith, n, length-some (setOf m))) (λ j h. named-byte m b j (omega (arith, n, length-short (setOf m))))
     ∙ tail-is 10 m
 
 -- ---- the default
 pub default-taken : takes defaultSet ≡ true
-unfolding takes faultAt lengthOf fitsLength reservedFI reservedDI longWait defaultSet setWith numberOf part _⇒_⁏_ _and_ _or_
+unfolding takes faultAt lengthOf fitsLength reservedFI reservedDI longWait defaultSet setWith numberIn byteOf _⇒_⁏_ _and_ _or_
 default-taken = refl

@@ -5,11 +5,11 @@ use mathlib.Core.Bool.{Bool, not}
 use mathlib.Core.List.{List, [], _∷_}
 use lib.Dec.{ltb, leb}
 use Rattle.words.specs.Choice.{_⇒_⁏_, _and_, _or_, _is_, _isnt_}
-use Rattle.words.specs.Bytes.{byte, numberOf, part, series}
+use Rattle.words.specs.Bytes.{byte, numberIn, byteOf, series}
 
 -- a protocol number with its bytes
 unfoldable pub setWith : ℕ → List ℕ → ℕ
-setWith protocol bytes = numberOf (protocol ∷ bytes)
+setWith protocol bytes = numberIn (protocol ∷ bytes)
 
 -- "Default is T=0 with 11 00 00 0A 00"
 unfoldable pub defaultSet : ℕ
@@ -17,38 +17,38 @@ defaultSet = setWith 0 (0x11 ∷ 0x00 ∷ 0x00 ∷ 0x0A ∷ 0x00 ∷ [])
 
 -- bProtocolNum; then the bytes by their offsets and names in the layouts. Offset 12, the guard time, is asked nothing
 abbrev pub protocolOf : ℕ → ℕ
-protocolOf set = part set 0
+protocolOf set = byteOf set 0
 
 -- 10, bmFindexDindex: FI in the upper four bits, DI in the lower
 abbrev pub factors : ℕ → ℕ
-factors set = part set 1
+factors set = byteOf set 1
 
 -- 11, bmTCCKST0 and bmTCCKST1
 abbrev pub checksum : ℕ → ℕ
-checksum set = part set 2
+checksum set = byteOf set 2
 
 -- 13, bWaitingIntegerT0 and bWaitingIntegerT1
 abbrev pub waiting : ℕ → ℕ
-waiting set = part set 4
+waiting set = byteOf set 4
 
 -- 14, bClockStop
 abbrev pub clockStop : ℕ → ℕ
-clockStop set = part set 5
+clockStop set = byteOf set 5
 
 -- 15, bIFSC
 abbrev pub ifsc : ℕ → ℕ
-ifsc set = part set 6
+ifsc set = byteOf set 6
 
 -- 16, bNadValue
 abbrev pub nad : ℕ → ℕ
-nad set = part set 7
+nad set = byteOf set 7
 
 -- "T=0 has 5 bytes, T=1 has 7": five where it is T=0 and nothing stands in the two behind
 unfoldable pub lengthOf : ℕ → ℕ
 lengthOf set = protocolOf set is 0 and ifsc set is 0 and nad set is 0 ⇒ 5 ⁏ 7
 
 abbrev pub bytesOf : ℕ → List ℕ
-bytesOf set = series (part set) 1 (lengthOf set)
+bytesOf set = series (byteOf set) 1 (lengthOf set)
 
 -- ---- what SetParameters (61h) takes
 -- a protocol number fits the length

@@ -2,7 +2,7 @@
 // a lent buffer has a `requires`: any number has its answer. The rules are written in specs/Sets.antt.
 
 use words::byte_at;
-use words::part;
+use words::byte_of;
 use words::wide;
 ghost use mathlib.Core.Path.{_≡_};
 ghost use Prim.Native.Nat.{_≤_};
@@ -36,13 +36,13 @@ pub fn set_of(msg: &[u8]) -> usize
 fn length_of(set: usize) -> usize
     ensures { λ r. ⌜ r ≡ lengthOf set ⌝ }
 {
-    if part(set, 0) != 0 {
+    if byte_of(set, 0) != 0 {
         return 7;
     }
-    if part(set, 6) != 0 {
+    if byte_of(set, 6) != 0 {
         return 7;
     }
-    if part(set, 7) != 0 {
+    if byte_of(set, 7) != 0 {
         return 7;
     }
     5
@@ -56,7 +56,7 @@ pub fn put_set(set: usize, out: &mut [u8]) -> usize
     let n = length_of(set);
     let mut i = 0;
     while i < n {
-        out[i] = part(set, i + 1);
+        out[i] = byte_of(set, i + 1);
         i += 1;
     }
     n
@@ -124,26 +124,26 @@ fn long_wait(protocol: u8, waiting: u8) -> bool
 pub fn fault_at(set: usize, n: usize) -> u8
     ensures { λ r. ⌜ r ≡ faultAt set n ⌝ }
 {
-    let protocol = part(set, 0);
+    let protocol = byte_of(set, 0);
     if !fits_length(protocol, n) {
         return 7;
     }
-    if reserved_fi(part(set, 1) / 16) {
+    if reserved_fi(byte_of(set, 1) / 16) {
         return 10;
     }
-    if reserved_di(part(set, 1) % 16) {
+    if reserved_di(byte_of(set, 1) % 16) {
         return 10;
     }
-    if part(set, 2) / 4 != upper_bits(protocol) {
+    if byte_of(set, 2) / 4 != upper_bits(protocol) {
         return 11;
     }
-    if long_wait(protocol, part(set, 4)) {
+    if long_wait(protocol, byte_of(set, 4)) {
         return 13;
     }
-    if 3 < part(set, 5) {
+    if 3 < byte_of(set, 5) {
         return 14;
     }
-    if part(set, 7) != 0 {
+    if byte_of(set, 7) != 0 {
         return 16;
     }
     0

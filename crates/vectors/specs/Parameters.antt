@@ -8,22 +8,22 @@ use Rattle.slot.specs.Slots.{removed}
 use Rattle.vectors.specs.Sessions.{Row, on4442}
 
 -- a type with no data; 61h with a protocol number and bytes; all to slot 0 with bSeq 0
-abbrev pub bare : ℕ → List ℕ
-bare type = type ∷ replicate 9 0
+abbrev pub dataless : ℕ → List ℕ
+dataless type = type ∷ replicate 9 0
 
 unfoldable pub setting : ℕ → List ℕ → List ℕ
 setting protocol d = 0x61 ∷ fourBytes (length d) ++ (0 ∷ 0 ∷ protocol ∷ 0 ∷ 0 ∷ d)
 
 -- 82h of an active card with a protocol number and bytes; one that failed, with its bStatus and bError
-unfoldable pub tells : ℕ → List ℕ → List ℕ
-tells protocol d = 0x82 ∷ fourBytes (length d) ++ (0 ∷ 0 ∷ 0x00 ∷ 0x00 ∷ protocol ∷ d)
+unfoldable pub tells82 : ℕ → List ℕ → List ℕ
+tells82 protocol d = 0x82 ∷ fourBytes (length d) ++ (0 ∷ 0 ∷ 0x00 ∷ 0x00 ∷ protocol ∷ d)
 
-unfoldable pub fails : ℕ → ℕ → List ℕ
-fails bStatus bError = 0x82 ∷ 0 ∷ 0 ∷ 0 ∷ 0 ∷ 0 ∷ 0 ∷ bStatus ∷ bError ∷ 0 ∷ []
+unfoldable pub fails82 : ℕ → ℕ → List ℕ
+fails82 bStatus bError = 0x82 ∷ 0 ∷ 0 ∷ 0 ∷ 0 ∷ 0 ∷ 0 ∷ bStatus ∷ bError ∷ 0 ∷ []
 
 -- the default, and a set of each protocol
-abbrev pub default : List ℕ
-default = 0x11 ∷ 0x00 ∷ 0x00 ∷ 0x0A ∷ 0x00 ∷ []
+abbrev pub defaultBytes : List ℕ
+defaultBytes = 0x11 ∷ 0x00 ∷ 0x00 ∷ 0x0A ∷ 0x00 ∷ []
 
 abbrev pub t0 : List ℕ
 t0 = 0x95 ∷ 0x02 ∷ 0x07 ∷ 0x14 ∷ 0x03 ∷ []
@@ -35,23 +35,23 @@ unfoldable pub parameterRows : List Row
 parameterRows =
     -- 1. asked, the default; set and asked, T=0; set and asked, T=1; reset
     on4442 0x07
-    (bare 0x6C ∷ setting 0 t0 ∷ bare 0x6C ∷ setting 1 t1 ∷ bare 0x6C ∷ bare 0x6D ∷ [])
-    (tells 0 default ∷ tells 0 t0 ∷ tells 0 t0 ∷ tells 1 t1 ∷ tells 1 t1 ∷ tells 0 default ∷ [])
+    (dataless 0x6C ∷ setting 0 t0 ∷ dataless 0x6C ∷ setting 1 t1 ∷ dataless 0x6C ∷ dataless 0x6D ∷ [])
+    (tells82 0 defaultBytes ∷ tells82 0 t0 ∷ tells82 0 t0 ∷ tells82 1 t1 ∷ tells82 1 t1 ∷ tells82 0 defaultBytes ∷ [])
     0x07 false
     -- 2. power off keeps them: 82h of an inactive card; power on brings the default back
     ∷ on4442 0x07
-    (setting 1 t1 ∷ bare 0x63 ∷ bare 0x6C ∷ bare 0x62 ∷ bare 0x6C ∷ [])
-    (tells 1 t1
+    (setting 1 t1 ∷ dataless 0x63 ∷ dataless 0x6C ∷ dataless 0x62 ∷ dataless 0x6C ∷ [])
+    (tells82 1 t1
     ∷ (0x81 ∷ 0 ∷ 0 ∷ 0 ∷ 0 ∷ 0 ∷ 0 ∷ 0x01 ∷ 0 ∷ 1 ∷ [])
-    ∷ set (tells 1 t1) 7 0x01
+    ∷ set (tells82 1 t1) 7 0x01
     ∷ (0x80 ∷ 0x06 ∷ 0 ∷ 0 ∷ 0 ∷ 0 ∷ 0 ∷ 0 ∷ 0 ∷ 0 ∷ 0x3B ∷ 0x04 ∷ 0xA2 ∷ 0x13 ∷ 0x10 ∷ 0x91 ∷ [])
-    ∷ tells 0 default
+    ∷ tells82 0 defaultBytes
     ∷ [])
     0x07 false
     -- 3. a protocol number that does not fit the length: 07h
     ∷ on4442 0x07
     (setting 1 t0 ∷ setting 0 t1 ∷ setting 2 t0 ∷ setting 0x80 t1 ∷ [])
-    (fails 0x40 0x07 ∷ fails 0x40 0x07 ∷ fails 0x40 0x07 ∷ fails 0x40 0x07 ∷ [])
+    (fails82 0x40 0x07 ∷ fails82 0x40 0x07 ∷ fails82 0x40 0x07 ∷ fails82 0x40 0x07 ∷ [])
     0x07 false
     -- 4. FI 7, DI 7: 0Ah; the upper bits of the checksum byte, T=0 and T=1: 0Bh; BWI 10: 0Dh; clock stop 4: 0Eh; NAD 1: 10h; nothing is set
     ∷ on4442 0x07
@@ -62,21 +62,21 @@ parameterRows =
     ∷ setting 1 (set t1 3 0xA0)
     ∷ setting 0 (set t0 4 0x04)
     ∷ setting 1 (set t1 6 0x01)
-    ∷ bare 0x6C
+    ∷ dataless 0x6C
     ∷ [])
-    (fails 0x40 0x0A ∷ fails 0x40 0x0A ∷ fails 0x40 0x0B ∷ fails 0x40 0x0B ∷ fails 0x40 0x0D ∷ fails 0x40 0x0E ∷ fails 0x40 0x10 ∷ tells 0 default ∷ [])
+    (fails82 0x40 0x0A ∷ fails82 0x40 0x0A ∷ fails82 0x40 0x0B ∷ fails82 0x40 0x0B ∷ fails82 0x40 0x0D ∷ fails82 0x40 0x0E ∷ fails82 0x40 0x10 ∷ tells82 0 defaultBytes ∷ [])
     0x07 false
     -- 5. dwLength 6, or data behind 6Ch: 01h; bSlot 1: 05h, and the state is that of no card
     ∷ on4442 0x07
-    (setting 0 (t0 ++ (0x00 ∷ [])) ∷ (set (bare 0x6C) 1 0x01 ++ (0x00 ∷ [])) ∷ set (bare 0x6D) 5 0x01 ∷ [])
-    (fails 0x40 0x01 ∷ fails 0x40 0x01 ∷ set (fails 0x42 0x05) 5 0x01 ∷ [])
+    (setting 0 (t0 ++ (0x00 ∷ [])) ∷ (set (dataless 0x6C) 1 0x01 ++ (0x00 ∷ [])) ∷ set (dataless 0x6D) 5 0x01 ∷ [])
+    (fails82 0x40 0x01 ∷ fails82 0x40 0x01 ∷ set (fails82 0x42 0x05) 5 0x01 ∷ [])
     0x07 false
     -- 6. no card: FEh
     ∷ record {
       slot = removed;
       image = [];
-      messages = setting 0 t0 ∷ bare 0x6C ∷ bare 0x6D ∷ [];
-      answers = fails 0x42 0xFE ∷ fails 0x42 0xFE ∷ fails 0x42 0xFE ∷ [];
+      messages = setting 0 t0 ∷ dataless 0x6C ∷ dataless 0x6D ∷ [];
+      answers = fails82 0x42 0xFE ∷ fails82 0x42 0xFE ∷ fails82 0x42 0xFE ∷ [];
       address = 0;
       bytes = [];
       opened = false;

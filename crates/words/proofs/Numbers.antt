@@ -11,15 +11,15 @@ use mathlib.Core.Bool.{Bool, true}
 use borrow.Author.Tests.{ltb-true}
 use Rattle.words.specs.Choice.{_and_}
 use Rattle.words.proofs.Choices.{and-true}
-use Rattle.words.specs.Bytes.{AllBytes, byte, fourAt, eightAt, numberOf, part, lowFirst, series}
+use Rattle.words.specs.Bytes.{AllBytes, byte, fourAt, eightAt, numberIn, byteOf, lowFirst, series}
 
 -- ---- a loop that takes byte after byte off: one turn
 less-one : (k i : ℕ) → i < k → k - i ≡ suc (k - (i + 1))
 less-one k i h = omega arith
 
-pub part-turn : (n k i : ℕ) → i < k → part n (k - i) ≡ part (n / 256) (k - (i + 1))
-unfolding part
-part-turn n k i h = ap (part n) (less-one k i h)
+pub byte-turn : (n k i : ℕ) → i < k → byteOf n (k - i) ≡ byteOf (n / 256) (k - (i + 1))
+unfolding byteOf
+byte-turn n k i h = ap (byteOf n) (less-one k i h)
 
 pub low-turn : (l : List ℕ) (at n k i : ℕ) → i < k → sets l (at + i) (lowFirst (k - i) n) ≡ sets (set l (at + i) (n % 256)) (at + (i + 1)) (lowFirst (k - (i + 1)) (n / 256))
 unfolding lowFirst
@@ -69,8 +69,8 @@ pub series-bytes : (f : ℕ → ℕ) → ((k : ℕ) → f k < 256) → (k n : �
 series-bytes f h k n = record { fits = series-fits f h k n }
 
 -- eight bytes read at once
-pub eight-number : (l : List ℕ) (k : ℕ) → AllBytes l → eightAt l k ≡ numberOf (series (byte l) k 8)
-unfolding eightAt fourAt numberOf series
+pub eight-number : (l : List ℕ) (k : ℕ) → AllBytes l → eightAt l k ≡ numberIn (series (byte l) k 8)
+unfolding eightAt fourAt numberIn series
 eight-number l k b =
     let p1 : k + 1 ≡ suc k = omega arith in
     let p2 : k + 2 ≡ suc (suc k) = omega arith in
@@ -99,26 +99,26 @@ eight-number l k b =
     )
 
 -- byte i of it is byte i of the list
-part-zero : (i : ℕ) → part 0 i ≡ 0
-unfolding part
-part-zero zero = refl
-part-zero (suc i) = part-zero i
+byte-zero : (i : ℕ) → byteOf 0 i ≡ 0
+unfolding byteOf
+byte-zero zero = refl
+byte-zero (suc i) = byte-zero i
 
-pub part-number : (l : List ℕ) (i : ℕ) → part (numberOf l) i ≡ byte l i % 256
-unfolding part numberOf
-part-number [] i = part-zero i
-part-number (x ∷ l) zero = omega arith
-part-number (x ∷ l) (suc i) =
-    let e : (x % 256 + 256 * numberOf l) / 256 ≡ numberOf l = omega arith in
-    ap (λ (n : ℕ). part n i) e ∙ part-number l i
+pub byte-number : (l : List ℕ) (i : ℕ) → byteOf (numberIn l) i ≡ byte l i % 256
+unfolding byteOf numberIn
+byte-number [] i = byte-zero i
+byte-number (x ∷ l) zero = omega arith
+byte-number (x ∷ l) (suc i) =
+    let e : (x % 256 + 256 * numberIn l) / 256 ≡ numberIn l = omega arith in
+    ap (λ (n : ℕ). byteOf n i) e ∙ byte-number l i
 
 -- put in as many bytes it is the list again
-pub low-number : (k : ℕ) (l : List ℕ) → length l ≡ suc k → AllBytes l → lowFirst k (numberOf l) ≡ l
-unfolding lowFirst numberOf
+pub low-number : (k : ℕ) (l : List ℕ) → length l ≡ suc k → AllBytes l → lowFirst k (numberIn l) ≡ l
+unfolding lowFirst numberIn
 low-number k [] e b = absurd (omega arith)
 low-number zero (x ∷ []) e b = let p : x % 256 + 256 * 0 ≡ x = omega (arith, b .fits 0) in ap (λ (n : ℕ). n ∷ []) p
 low-number zero (x ∷ y ∷ l) e b = absurd (omega arith)
 low-number (suc k) (x ∷ l) e b =
-    let p : (x % 256 + 256 * numberOf l) % 256 ≡ x = omega (arith, b .fits 0) in
-    let q : (x % 256 + 256 * numberOf l) / 256 ≡ numberOf l = omega arith in
+    let p : (x % 256 + 256 * numberIn l) % 256 ≡ x = omega (arith, b .fits 0) in
+    let q : (x % 256 + 256 * numberIn l) / 256 ≡ numberIn l = omega arith in
     ap₂ (λ (y n : ℕ). y ∷ lowFirst k n) p q ∙ ap (λ (t : List ℕ). x ∷ t) (low-number k l (omega arith) (rest-bytes x l b))

@@ -32,13 +32,13 @@ unfoldable pub eightAt : List ℕ → ℕ → ℕ
 eightAt l k = fourAt l k + 4294967296 * fourAt l (k + 4)
 
 -- the number that bytes make, low first; byte k of a number; and a number in k + 1 bytes, the last of which is what is left
-unfoldable pub numberOf : List ℕ → ℕ
-numberOf [] = 0
-numberOf (x ∷ l) = x % 256 + 256 * numberOf l
+unfoldable pub numberIn : List ℕ → ℕ
+numberIn [] = 0
+numberIn (x ∷ l) = x % 256 + 256 * numberIn l
 
-unfoldable pub part : ℕ → ℕ → ℕ
-part n zero = n % 256
-part n (suc k) = part (n / 256) k
+unfoldable pub byteOf : ℕ → ℕ → ℕ
+byteOf n zero = n % 256
+byteOf n (suc k) = byteOf (n / 256) k
 
 unfoldable pub lowFirst : ℕ → ℕ → List ℕ
 lowFirst zero n = n ∷ []

@@ -5,7 +5,7 @@ ghost use mathlib.Core.Path.{_≡_};
 ghost use Prim.Native.Nat.{_+_, _≤_, _<_, min};
 ghost use lib.ListN.{length, set};
 ghost use lib.Seq.{sets};
-ghost use Rattle.words.specs.Bytes.{byte, same, fourAt, eightAt, part, lowFirst, over};
+ghost use Rattle.words.specs.Bytes.{byte, same, fourAt, eightAt, byteOf, lowFirst, over};
 
 // The smallest answer buffer that is not turned down.
 pub const ROOM: usize = 271;
@@ -57,8 +57,8 @@ pub fn eight_at(s: &[u8], k: usize) -> usize
 }
 
 // Byte k of a number, low first.
-pub fn part(n: usize, k: usize) -> u8
-    ensures { λ r. ⌜ r ≡ part n k ⌝ }
+pub fn byte_of(n: usize, k: usize) -> u8
+    ensures { λ r. ⌜ r ≡ byteOf n k ⌝ }
 {
     let mut left = n;
     let mut i = 0;

@@ -1,13 +1,13 @@
 -- The table of wrong readers: the parameters.
 use Prim.Native.Nat.{ℕ, _+_, _*_}
 use mathlib.Core.List.{List, [], _∷_, _++_, map}
-use lib.ListN.{length, set}
-use Rattle.words.specs.Bytes.{fourBytes}
+use lib.ListN.{set}
 use Rattle.chips.specs.declared.Chip.the-variants.{Sle4442}
 use Rattle.sets.specs.Sets.{setWith}
 use Rattle.slot.specs.declared.Slot.{Slot}
 use Rattle.slot.specs.Slots.{inserted, removed, setAs}
 use Rattle.vectors.specs.Sessions.{wrong4442}
+use Rattle.vectors.specs.Parameters.{setting}
 use Rattle.promise.specs.Visits.{select}
 use Rattle.wrong.specs.Caught.{Witness, byInsertion, byRemoval}
 use Rattle.wrong.specs.Inputs.{shut, mem4442, plain, on, at4442}
@@ -15,18 +15,15 @@ use Rattle.wrong.specs.WrongAnswers as answers
 use Rattle.wrong.specs.WrongFaults as faults
 use Rattle.wrong.specs.WrongParams as params
 
--- a good set of each protocol; the SetParameters message of a protocol number and bytes; the card with a set stored
+-- a good set of each protocol, and the card with a set stored
 abbrev pub good0 : List ℕ
 good0 = 0x95 ∷ 0x00 ∷ 0x02 ∷ 0x0A ∷ 0x01 ∷ []
 
 abbrev pub good1 : List ℕ
 good1 = 0x95 ∷ 0x10 ∷ 0x02 ∷ 0x4D ∷ 0x01 ∷ 0x20 ∷ 0x00 ∷ []
 
-abbrev pub setting : ℕ → List ℕ → List ℕ
-setting protocol bytes = 0x61 ∷ fourBytes (length bytes) ++ (0 ∷ 0 ∷ protocol ∷ 0 ∷ 0 ∷ bytes)
-
-abbrev pub holding : ℕ → List ℕ → Slot
-holding protocol bytes = setAs (setWith protocol bytes) (shut Sle4442)
+abbrev pub stored : ℕ → List ℕ → Slot
+stored protocol bytes = setAs (setWith protocol bytes) (shut Sle4442)
 
 -- ---- the parameters
 abbrev pub paramRows : List Witness
@@ -84,46 +81,46 @@ paramRows =
     ∷ at4442 (params.failure81 0x61) 0x07 (setting 1 good0)
     ∷ on (params.failure81 0x6C) removed [] (plain 0x6C)
     ∷ on (params.failure81 0x6D) removed [] (plain 0x6D)
-    ∷ on params.protocolNone (holding 1 good1) mem4442 (plain 0x6C)
+    ∷ on params.protocolNone (stored 1 good1) mem4442 (plain 0x6C)
     ∷ on params.clockIn82 (inserted Sle4442) mem4442 (plain 0x6C)
     ∷ at4442 params.protocolBefore 0x07 (setting 1 good1)
-    ∷ on params.failureProtocol (holding 1 good1) mem4442 (set (plain 0x6C) 5 0x01)
+    ∷ on params.failureProtocol (stored 1 good1) mem4442 (set (plain 0x6C) 5 0x01)
     ∷ at4442 params.failureTells 0x07 (setting 1 good0)
-    ∷ at4442 (params.tellsBefore 0x61) 0x07 (setting 0 good0)
-    ∷ on (params.tellsBefore 0x6D) (holding 1 good1) mem4442 (plain 0x6D)
+    ∷ at4442 (params.tellsOld 0x61) 0x07 (setting 0 good0)
+    ∷ on (params.tellsOld 0x6D) (stored 1 good1) mem4442 (plain 0x6D)
     ∷ at4442 (params.tellsNone 0x61) 0x07 (setting 0 good0)
     ∷ at4442 (params.tellsNone 0x6C) 0x07 (plain 0x6C)
     ∷ at4442 (params.tellsNone 0x6D) 0x07 (plain 0x6D)
     ∷ at4442 params.tellsSeven 0x07 (plain 0x6C)
-    ∷ on params.tellsFive (holding 1 good1) mem4442 (plain 0x6C)
+    ∷ on params.tellsFive (stored 1 good1) mem4442 (plain 0x6C)
     ∷ at4442 params.storesFaulty 0x07 (setting 0 (set good0 4 0x04))
     ∷ at4442 (params.keepsSet 0x61) 0x07 (setting 1 good1)
-    ∷ on (params.keepsSet 0x62) (holding 1 good1) mem4442 (plain 0x62)
-    ∷ on (params.keepsSet 0x6D) (holding 1 good1) mem4442 (plain 0x6D)
-    ∷ on (params.bringsDefault 0x63) (holding 1 good1) mem4442 (plain 0x63)
-    ∷ on (params.bringsDefault 0x65) (holding 1 good1) mem4442 (plain 0x65)
-    ∷ on (params.bringsDefault 0x6C) (holding 1 good1) mem4442 (plain 0x6C)
-    ∷ on (params.bringsDefault 0x6F) (holding 1 good1) mem4442 wrong4442
-    ∷ on params.failureResets (holding 1 good1) mem4442 (set (plain 0x65) 5 0x01)
-    ∷ on params.selectResets (holding 1 good1) mem4442 (select 0x06)
+    ∷ on (params.keepsSet 0x62) (stored 1 good1) mem4442 (plain 0x62)
+    ∷ on (params.keepsSet 0x6D) (stored 1 good1) mem4442 (plain 0x6D)
+    ∷ on (params.bringsDefault 0x63) (stored 1 good1) mem4442 (plain 0x63)
+    ∷ on (params.bringsDefault 0x65) (stored 1 good1) mem4442 (plain 0x65)
+    ∷ on (params.bringsDefault 0x6C) (stored 1 good1) mem4442 (plain 0x6C)
+    ∷ on (params.bringsDefault 0x6F) (stored 1 good1) mem4442 wrong4442
+    ∷ on params.failureResets (stored 1 good1) mem4442 (set (plain 0x65) 5 0x01)
+    ∷ on params.selectResets (stored 1 good1) mem4442 (select 0x06)
     ∷ at4442 params.setPowersOff 0x07 (setting 0 good0)
     ∷ byInsertion params.insertKeepsSet (setAs (setWith 1 good1) removed) 30 mem4442
-    ∷ byRemoval params.removeKeepsSet (holding 1 good1)
-    ∷ on params.anySet (holding 2 good1) mem4442 (plain 0x65)
-    ∷ on params.anySet (holding 0 (set good1 1 0x00)) mem4442 (plain 0x65)
-    ∷ on params.anySet (holding 0 (good0 ++ (0x00 ∷ 0x01 ∷ []))) mem4442 (plain 0x65)
-    ∷ on params.anySet (holding 0 (set good0 0 0x71)) mem4442 (plain 0x65)
-    ∷ on params.anySet (holding 0 (set good0 0 0x17)) mem4442 (plain 0x65)
-    ∷ on params.anySet (holding 0 (set good0 1 0x04)) mem4442 (plain 0x65)
-    ∷ on params.anySet (holding 1 (set good1 1 0x14)) mem4442 (plain 0x65)
-    ∷ on params.anySet (holding 1 (set good1 3 0xA0)) mem4442 (plain 0x65)
-    ∷ on params.anySet (holding 0 (set good0 4 0x04)) mem4442 (plain 0x65)
-    ∷ on params.anySet (holding 1 (set good1 6 0x01)) mem4442 (plain 0x65)
-    ∷ on params.tailUnseen (holding 0 (set good1 1 0x00)) mem4442 (plain 0x65)
-    ∷ on params.tailUnseen (holding 0 (good0 ++ (0x00 ∷ 0x01 ∷ []))) mem4442 (plain 0x65)
+    ∷ byRemoval params.removeKeepsSet (stored 1 good1)
+    ∷ on params.anySet (stored 2 good1) mem4442 (plain 0x65)
+    ∷ on params.anySet (stored 0 (set good1 1 0x00)) mem4442 (plain 0x65)
+    ∷ on params.anySet (stored 0 (good0 ++ (0x00 ∷ 0x01 ∷ []))) mem4442 (plain 0x65)
+    ∷ on params.anySet (stored 0 (set good0 0 0x71)) mem4442 (plain 0x65)
+    ∷ on params.anySet (stored 0 (set good0 0 0x17)) mem4442 (plain 0x65)
+    ∷ on params.anySet (stored 0 (set good0 1 0x04)) mem4442 (plain 0x65)
+    ∷ on params.anySet (stored 1 (set good1 1 0x14)) mem4442 (plain 0x65)
+    ∷ on params.anySet (stored 1 (set good1 3 0xA0)) mem4442 (plain 0x65)
+    ∷ on params.anySet (stored 0 (set good0 4 0x04)) mem4442 (plain 0x65)
+    ∷ on params.anySet (stored 1 (set good1 6 0x01)) mem4442 (plain 0x65)
+    ∷ on params.tailUnseen (stored 0 (set good1 1 0x00)) mem4442 (plain 0x65)
+    ∷ on params.tailUnseen (stored 0 (good0 ++ (0x00 ∷ 0x01 ∷ []))) mem4442 (plain 0x65)
     ∷ on params.emptySet (setAs (setWith 0 good0) removed) [] (plain 0x65)
     ∷ on params.emptySet (setAs (setWith 1 good1) removed) [] (plain 0x65)
-    ∷ on params.defaultAlone (holding 1 good1) mem4442 (plain 0x65)
+    ∷ on params.defaultAlone (stored 1 good1) mem4442 (plain 0x65)
     ∷ []
 
 -- ---- every entry of the two tables: each reserved one let through, each other one taken for a reserved one

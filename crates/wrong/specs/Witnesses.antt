@@ -7,6 +7,7 @@ use Rattle.words.specs.Bytes.{series}
 use Rattle.chips.specs.declared.Chip.the-variants.{I2c1}
 use Rattle.slot.specs.Slots.{removed}
 use Rattle.reader.specs.Heard.{heard}
+use Rattle.vectors.specs.Parameters.{setting}
 use Rattle.vectors.specs.Sessions.{lent, selectedSlot, image4442, image4428, transfer}
 use Rattle.wrong.specs.Caught.{Witness}
 use Rattle.wrong.specs.WrongReaders.{remembering, answersAgain, equalFree}
@@ -77,5 +78,5 @@ wrongReaders =
 
 -- the table and its words at once, for what is proved by computing them
 unfoldable pub witnesses : ℕ
-unfolding ones lent selectedSlot image4442 image4428 transfer heard remembering answersAgain equalFree storeAround upToUnequal cutFrom backwards wrongReaders
+unfolding ones lent selectedSlot image4442 image4428 transfer setting heard remembering answersAgain equalFree storeAround upToUnequal cutFrom backwards wrongReaders
 witnesses = 0

@@ -5,7 +5,7 @@ use mathlib.Core.List.{[]}
 use lib.ListN.{take, set}
 use lib.Dec.{ltb}
 use Rattle.words.specs.Choice.{_⇒_⁏_, _and_, _or_, _is_, _isnt_}
-use Rattle.words.specs.Bytes.{byte, numberOf, part, series}
+use Rattle.words.specs.Bytes.{byte, numberIn, byteOf, series}
 use Rattle.sets.specs.Sets.{defaultSet, protocolOf, factors, checksum, waiting, clockStop, nad, bytesOf, reservedFI, reservedDI, upperBits, longWait, faultAt, setOf, takes}
 use Rattle.slot.specs.Slots.{occupied, removed, powered, setAs, defaulted}
 use Rattle.sound.specs.Sound.{pageSize, emptySound, idleSound, typeSound, openSound}
@@ -20,7 +20,7 @@ use Rattle.wrong.specs.WrongFaults.{mended}
 
 -- a set with its byte k replaced: byte 0 is the protocol number, byte 1 that at offset 10
 abbrev pub bytePut : ℕ → ℕ → ℕ → ℕ
-bytePut k v t = numberOf (set (series (part t) 0 8) k v)
+bytePut k v t = numberIn (set (series (byteOf t) 0 8) k v)
 
 -- ---- 07h: the protocol number and the length
 -- takes a protocol number that does not fit the length
@@ -105,11 +105,11 @@ anyNad = fielding λ t n. faultAt (bytePut 7 0 t) n
 
 -- takes no guard time of FFh
 abbrev pub refusesGuard : Reader
-refusesGuard = fielding λ t n. let at = faultAt t n in at is 0 and part t 3 is 0xFF ⇒ 12 ⁏ at
+refusesGuard = fielding λ t n. let at = faultAt t n in at is 0 and byteOf t 3 is 0xFF ⇒ 12 ⁏ at
 
 -- takes no IFSC of 00h
 abbrev pub refusesIfsc : Reader
-refusesIfsc = fielding λ t n. let at = faultAt t n in at is 0 and protocolOf t is 1 and part t 6 is 0 ⇒ 15 ⁏ at
+refusesIfsc = fielding λ t n. let at = faultAt t n in at is 0 and protocolOf t is 1 and byteOf t 6 is 0 ⇒ 15 ⁏ at
 
 -- ---- the order of the bytes
 -- looks from the last byte to the first
@@ -164,8 +164,8 @@ abbrev pub failureTells : Reader
 failureTells s image m room = let o = exchange s image m room in in82 o and failed o ⇒ telling (bytesOf (o .slot .set)) o ⁏ o
 
 -- tells the parameters before the call at this type
-abbrev pub tellsBefore : ℕ → Reader
-tellsBefore type = upon type λ s image o. telling (bytesOf (s .set)) o
+abbrev pub tellsOld : ℕ → Reader
+tellsOld type = upon type λ s image o. telling (bytesOf (s .set)) o
 
 -- tells no parameters at this type
 abbrev pub tellsNone : ℕ → Reader
@@ -173,11 +173,11 @@ tellsNone type = upon type λ s image o. telling [] o
 
 -- tells seven bytes of T=0 too
 abbrev pub tellsSeven : Reader
-tellsSeven = upon 0x6C λ s image o. telling (series (part (s .set)) 1 7) o
+tellsSeven = upon 0x6C λ s image o. telling (series (byteOf (s .set)) 1 7) o
 
 -- tells five bytes of T=1 too
 abbrev pub tellsFive : Reader
-tellsFive = upon 0x6C λ s image o. telling (series (part (s .set)) 1 5) o
+tellsFive = upon 0x6C λ s image o. telling (series (byteOf (s .set)) 1 5) o
 
 -- ---- what is left
 -- stores a set before its fault is seen

@@ -25,7 +25,7 @@ use Rattle.reader.specs.Fronts.{frontOf}
 use Rattle.calls.specs.Calls.{RawOutcome, rawDown, rawServed, rawExchange, rawInsertion, rawRemoval, RawGives, resultOf}
 use Rattle.vectors.specs.Sessions.{image4442}
 use Rattle.promise.specs.Visits.{select}
-use Rattle.wrong.specs.ParamRows.{good1, holding}
+use Rattle.wrong.specs.ParamRows.{good1, stored}
 use Rattle.wrong.specs.Inputs.{bare, shut, wide, mem4442, memI2c, plain}
 
 -- ---- what a reader of a raw record is: of a message (record, image, message, length of the answer buffer), of an insertion, of a removal; and
@@ -272,7 +272,7 @@ abbrev pub cardRecord : List ℕ
 cardRecord = rawOf (shut Sle4442)
 
 abbrev pub t1Record : List ℕ
-t1Record = rawOf (holding 1 good1)
+t1Record = rawOf (stored 1 good1)
 
 abbrev pub emptyRecord : List ℕ
 emptyRecord = rawOf removed

@@ -15,33 +15,33 @@ use Rattle.sets.proofs.fault_at.Tie as tie
 past1 : (c : tie.Else1) → let a = c .before .before .before .args in not (fitsLength (protocolOf (a .set)) (a .n)) ≡ false
 past1 c =
     let a = c .before .before .before .args in
-    ap not (sym (c .before .fits-length .ensures ∙ ap (λ (p : ℕ). fitsLength p (a .n)) (c .before .before .part .ensures)) ∙ not-false _ (c .if1 .left))
+    ap not (sym (c .before .fits-length .ensures ∙ ap (λ (p : ℕ). fitsLength p (a .n)) (c .before .before .byte-of .ensures)) ∙ not-false _ (c .if1 .left))
 
 past2 : (c : tie.Else2) → let a = c .before .before .before .before .before .before .args in reservedFI (factors (a .set) / 16) ≡ false
-past2 c = sym (c .before .reserved-fi .ensures ∙ ap (λ (b : ℕ). reservedFI (b / 16)) (c .before .before .part2 .ensures)) ∙ c .if2 .left
+past2 c = sym (c .before .reserved-fi .ensures ∙ ap (λ (b : ℕ). reservedFI (b / 16)) (c .before .before .byte-of2 .ensures)) ∙ c .if2 .left
 
 past3 : (c : tie.Else3) → let a = c .before .before .before .before .before .before .before .before .before .args in reservedDI (factors (a .set) % 16) ≡ false
-past3 c = sym (c .before .reserved-di .ensures ∙ ap (λ (b : ℕ). reservedDI (b % 16)) (c .before .before .part3 .ensures)) ∙ c .if3 .left
+past3 c = sym (c .before .reserved-di .ensures ∙ ap (λ (b : ℕ). reservedDI (b % 16)) (c .before .before .byte-of3 .ensures)) ∙ c .if3 .left
 
 past4 : (c : tie.Else4) → let a = c .before .before .before .before .before .before .before .before .before .before .before .before .args in
     checksum (a .set) / 4 isnt upperBits (protocolOf (a .set)) ≡ false
 past4 c =
-    let protocol = c .before .before .before .before .before .before .before .before .before .before .before .part .ensures in
+    let protocol = c .before .before .before .before .before .before .before .before .before .before .before .byte-of .ensures in
     let e = c .before .upper-bits .ensures ∙ ap upperBits protocol in
-    ap not (eq-eqb _ _ (ap (λ (b : ℕ). b / 4) (sym (c .before .before .part4 .ensures)) ∙ c .if4 .left ∙ e))
+    ap not (eq-eqb _ _ (ap (λ (b : ℕ). b / 4) (sym (c .before .before .byte-of4 .ensures)) ∙ c .if4 .left ∙ e))
 
 past5 : (c : tie.Else5) → let a = c .before .before .before .before .before .before .before .before .before .before .before .before .before .before .before .args in
     longWait (protocolOf (a .set)) (waiting (a .set)) ≡ false
 past5 c =
-    let protocol = c .before .before .before .before .before .before .before .before .before .before .before .before .before .before .part .ensures in
-    sym (c .before .long-wait .ensures ∙ ap₂ longWait protocol (c .before .before .part5 .ensures)) ∙ c .if5 .left
+    let protocol = c .before .before .before .before .before .before .before .before .before .before .before .before .before .before .byte-of .ensures in
+    sym (c .before .long-wait .ensures ∙ ap₂ longWait protocol (c .before .before .byte-of5 .ensures)) ∙ c .if5 .left
 
 past6 : (c : tie.Else6) → let a = c .before .before .before .before .before .before .before .before .before .before .before .before .before .before .before .before .before .args in
     ltb 3 (clockStop (a .set)) ≡ false
-past6 c = ap (ltb 3) (sym (c .before .part6 .ensures)) ∙ le-ltb _ _ (c .if6 .left)
+past6 c = ap (ltb 3) (sym (c .before .byte-of6 .ensures)) ∙ le-ltb _ _ (c .if6 .left)
 
-part-requires : tie.Need-part-requires
-part-requires c κs = search needs
+byte-of-requires : tie.Need-byte-of-requires
+byte-of-requires c κs = search needs
 
 fits-length-requires : tie.Need-fits-length-requires
 fits-length-requires c κs = search needs
@@ -50,10 +50,10 @@ returns : tie.Need-returns
 unfolding faultAt
 returns c =
     let a = c .before .before .before .args in
-    taken _ (ap not (sym (c .before .fits-length .ensures ∙ ap (λ (p : ℕ). fitsLength p (a .n)) (c .before .before .part .ensures)) ∙ not-true _ (c .if1 .taken)))
+    taken _ (ap not (sym (c .before .fits-length .ensures ∙ ap (λ (p : ℕ). fitsLength p (a .n)) (c .before .before .byte-of .ensures)) ∙ not-true _ (c .if1 .taken)))
 
-part-requires-2 : tie.Need-part-requires-2
-part-requires-2 c κs = search needs
+byte-of-requires-2 : tie.Need-byte-of-requires-2
+byte-of-requires-2 c κs = search needs
 
 reserved-fi-requires : tie.Need-reserved-fi-requires
 reserved-fi-requires c κs = search needs
@@ -61,11 +61,11 @@ reserved-fi-requires c κs = search needs
 returns-2 : tie.Need-returns-2
 unfolding faultAt
 returns-2 c =
-    let e = c .before .reserved-fi .ensures ∙ ap (λ (b : ℕ). reservedFI (b / 16)) (c .before .before .part2 .ensures) in
+    let e = c .before .reserved-fi .ensures ∙ ap (λ (b : ℕ). reservedFI (b / 16)) (c .before .before .byte-of2 .ensures) in
     passed _ (past1 (c .before .before .before)) (taken _ (sym e ∙ c .if2 .taken))
 
-part-requires-3 : tie.Need-part-requires-3
-part-requires-3 c κs = search needs
+byte-of-requires-3 : tie.Need-byte-of-requires-3
+byte-of-requires-3 c κs = search needs
 
 reserved-di-requires : tie.Need-reserved-di-requires
 reserved-di-requires c κs = search needs
@@ -74,11 +74,11 @@ returns-3 : tie.Need-returns-3
 unfolding faultAt
 returns-3 c =
     let at-if2 = c .before .before .before in
-    let e = c .before .reserved-di .ensures ∙ ap (λ (b : ℕ). reservedDI (b % 16)) (c .before .before .part3 .ensures) in
+    let e = c .before .reserved-di .ensures ∙ ap (λ (b : ℕ). reservedDI (b % 16)) (c .before .before .byte-of3 .ensures) in
     passed _ (past1 (at-if2 .before .before .before)) (passed _ (past2 at-if2) (taken _ (sym e ∙ c .if3 .taken)))
 
-part-requires-4 : tie.Need-part-requires-4
-part-requires-4 c κs = search needs
+byte-of-requires-4 : tie.Need-byte-of-requires-4
+byte-of-requires-4 c κs = search needs
 
 upper-bits-requires : tie.Need-upper-bits-requires
 upper-bits-requires c κs = search needs
@@ -89,12 +89,12 @@ returns-4 c =
     let at-if3 = c .before .before .before in
     let at-if2 = at-if3 .before .before .before in
     let at-if1 = at-if2 .before .before .before in
-    let e = c .before .upper-bits .ensures ∙ ap upperBits (at-if1 .before .before .part .ensures) in
+    let e = c .before .upper-bits .ensures ∙ ap upperBits (at-if1 .before .before .byte-of .ensures) in
     passed _ (past1 at-if1) (passed _ (past2 at-if2) (passed _ (past3 at-if3)
-    (taken _ (ap not (ne-eqb _ _ (λ z. c .if4 .taken (ap (λ (b : ℕ). b / 4) (c .before .before .part4 .ensures) ∙ z ∙ sym e)))))))
+    (taken _ (ap not (ne-eqb _ _ (λ z. c .if4 .taken (ap (λ (b : ℕ). b / 4) (c .before .before .byte-of4 .ensures) ∙ z ∙ sym e)))))))
 
-part-requires-5 : tie.Need-part-requires-5
-part-requires-5 c κs = search needs
+byte-of-requires-5 : tie.Need-byte-of-requires-5
+byte-of-requires-5 c κs = search needs
 
 long-wait-requires : tie.Need-long-wait-requires
 long-wait-requires c κs = search needs
@@ -106,11 +106,11 @@ returns-5 c =
     let at-if3 = at-if4 .before .before .before in
     let at-if2 = at-if3 .before .before .before in
     let at-if1 = at-if2 .before .before .before in
-    let e = c .before .long-wait .ensures ∙ ap₂ longWait (at-if1 .before .before .part .ensures) (c .before .before .part5 .ensures) in
+    let e = c .before .long-wait .ensures ∙ ap₂ longWait (at-if1 .before .before .byte-of .ensures) (c .before .before .byte-of5 .ensures) in
     passed _ (past1 at-if1) (passed _ (past2 at-if2) (passed _ (past3 at-if3) (passed _ (past4 at-if4) (taken _ (sym e ∙ c .if5 .taken)))))
 
-part-requires-6 : tie.Need-part-requires-6
-part-requires-6 c κs = search needs
+byte-of-requires-6 : tie.Need-byte-of-requires-6
+byte-of-requires-6 c κs = search needs
 
 returns-6 : tie.Need-returns-6
 unfolding faultAt
@@ -121,10 +121,10 @@ returns-6 c =
     let at-if2 = at-if3 .before .before .before in
     let at-if1 = at-if2 .before .before .before in
     passed _ (past1 at-if1) (passed _ (past2 at-if2) (passed _ (past3 at-if3) (passed _ (past4 at-if4) (passed _ (past5 at-if5)
-    (taken _ (ap (ltb 3) (sym (c .before .part6 .ensures)) ∙ lt-ltb _ _ (c .if6 .taken)))))))
+    (taken _ (ap (ltb 3) (sym (c .before .byte-of6 .ensures)) ∙ lt-ltb _ _ (c .if6 .taken)))))))
 
-part-requires-7 : tie.Need-part-requires-7
-part-requires-7 c κs = search needs
+byte-of-requires-7 : tie.Need-byte-of-requires-7
+byte-of-requires-7 c κs = search needs
 
 returns-7 : tie.Need-returns-7
 unfolding faultAt
@@ -135,7 +135,7 @@ returns-7 c =
     let at-if2 = at-if3 .before .before .before in
     let at-if1 = at-if2 .before .before .before in
     passed _ (past1 at-if1) (passed _ (past2 at-if2) (passed _ (past3 at-if3) (passed _ (past4 at-if4) (passed _ (past5 at-if5)
-    (passed _ (past6 (c .before .before)) (taken _ (ap not (ne-eqb _ 0 (λ z. c .if7 .taken (c .before .part7 .ensures ∙ z))))))))))
+    (passed _ (past6 (c .before .before)) (taken _ (ap not (ne-eqb _ 0 (λ z. c .if7 .taken (c .before .byte-of7 .ensures ∙ z))))))))))
 
 returns-8 : tie.Need-returns-8
 unfolding faultAt
@@ -146,29 +146,29 @@ returns-8 c =
     let at-if2 = at-if3 .before .before .before in
     let at-if1 = at-if2 .before .before .before in
     passed _ (past1 at-if1) (passed _ (past2 at-if2) (passed _ (past3 at-if3) (passed _ (past4 at-if4) (passed _ (past5 at-if5)
-    (passed _ (past6 (c .before .before)) (passed _ (ap not (eq-eqb _ 0 (sym (c .before .part7 .ensures) ∙ c .if7 .left))) refl))))))
+    (passed _ (past6 (c .before .before)) (passed _ (ap not (eq-eqb _ 0 (sym (c .before .byte-of7 .ensures) ∙ c .if7 .left))) refl))))))
 
 pub fault-at-spec : {M : Type 1} → statement M
 fault-at-spec =
     tie.close
     (tie.spec
-    part-requires
+    byte-of-requires
     fits-length-requires
     returns
-    part-requires-2
+    byte-of-requires-2
     reserved-fi-requires
     returns-2
-    part-requires-3
+    byte-of-requires-3
     reserved-di-requires
     returns-3
-    part-requires-4
+    byte-of-requires-4
     upper-bits-requires
     returns-4
-    part-requires-5
+    byte-of-requires-5
     long-wait-requires
     returns-5
-    part-requires-6
+    byte-of-requires-6
     returns-6
-    part-requires-7
+    byte-of-requires-7
     returns-7
     returns-8)

@@ -6,7 +6,7 @@ use native.Mathlib.Nat.{add-comm}
 use native.Mathlib.Omega.{arith}
 use Prim.Native.Nat.{ℕ, _-_, _≤_, _<_}
 use lib.ListN.{length, set, length-set}
-use Rattle.words.specs.Bytes.{over, part, series}
+use Rattle.words.specs.Bytes.{over, byteOf, series}
 use Rattle.words.proofs.Lists.{over-none, length-series, series-more}
 use Rattle.sets.specs.Sets.{lengthOf}
 use Rattle.sets.proofs.SetLaws.{length-short}
@@ -14,7 +14,7 @@ use Rattle.sets.proofs.put_set.Statement.{statement}
 use Rattle.sets.proofs.put_set.Tie as tie
 
 abbrev Inv-loop : tie.InvT-loop
-Inv-loop t out₀ n i₀ out i = (i ≤ n) × (length out ≡ length out₀) × (out ≡ over (series (part t) 1 i) out₀)
+Inv-loop t out₀ n i₀ out i = (i ≤ n) × (length out ≡ length out₀) × (out ≡ over (series (byteOf t) 1 i) out₀)
 
 abbrev μ-loop : tie.MeasureT-loop
 μ-loop t out₀ n i₀ out i = n - i
@@ -26,11 +26,11 @@ loop-holds : tie.Need-loop-holds Inv-loop μ-loop
 unfolding series
 loop-holds c = (omega arith, refl, sym (over-none _))
 
-add-part : tie.Need-add-part Inv-loop μ-loop
-add-part c = search needs
+add-byte-of : tie.Need-add-byte-of Inv-loop μ-loop
+add-byte-of c = search needs
 
-part-requires : tie.Need-part-requires Inv-loop μ-loop
-part-requires c κs = search needs
+byte-of-requires : tie.Need-byte-of-requires Inv-loop μ-loop
+byte-of-requires c κs = search needs
 
 slice-write-out : tie.Need-slice-write-out Inv-loop μ-loop
 slice-write-out c =
@@ -54,8 +54,8 @@ loop-again c =
     let h : l .i < length (a .out .now) = omega (arith, n, length-short (a .set), start .pre) in (
       omega arith,
       simp length-set (l .inv .1),
-      ap₂ (λ (t : List ℕ) (x : ℕ). set t (l .i) x) (l .inv .2) (c .part .ensures ∙ ap (part (a .set)) (add-comm (l .i) 1))
-          ∙ series-more (part (a .set)) 1 (l .i) (a .out .now) h,
+      ap₂ (λ (t : List ℕ) (x : ℕ). set t (l .i) x) (l .inv .2) (c .byte-of .ensures ∙ ap (byteOf (a .set)) (add-comm (l .i) 1))
+          ∙ series-more (byteOf (a .set)) 1 (l .i) (a .out .now) h,
     )
 
 same-length : tie.Need-same-length Inv-loop μ-loop
@@ -67,8 +67,8 @@ returns c =
     let a = c .before .before .before .before .args in
     let n = c .before .before .length-of .ensures in
     let e : l .i ≡ lengthOf (a .set) = omega (arith, n) in (
-      n ∙ sym (length-series (part (a .set)) 1 (lengthOf (a .set))),
-      l .inv .2 ∙ ap (λ (k : ℕ). over (series (part (a .set)) 1 k) (a .out .now)) e,
+      n ∙ sym (length-series (byteOf (a .set)) 1 (lengthOf (a .set))),
+      l .inv .2 ∙ ap (λ (k : ℕ). over (series (byteOf (a .set)) 1 k) (a .out .now)) e,
       omega (arith, n, length-short (a .set)),
     )
 
@@ -80,8 +80,8 @@ put-set-spec =
     μ-loop
     length-of-requires
     loop-holds
-    add-part
-    part-requires
+    add-byte-of
+    byte-of-requires
     slice-write-out
     add-i
     loop-less

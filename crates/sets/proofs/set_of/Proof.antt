@@ -1,7 +1,7 @@
 -- `set_of` meets its contract: the sum is the definition, and eight bytes make no sum that wraps.
 use borrow.Author.Needs.{needs}
 use native.Mathlib.Omega.{arith}
-use Rattle.words.specs.Bytes.{numberOf, series}
+use Rattle.words.specs.Bytes.{numberIn, series}
 use Rattle.sets.specs.Sets.{setWith, setOf}
 use Rattle.sets.proofs.set_of.Statement.{statement}
 use Rattle.sets.proofs.set_of.Tie as tie
@@ -97,7 +97,7 @@ add-result : tie.Need-add-result
 add-result c = search needs
 
 returns : tie.Need-returns
-unfolding setOf setWith numberOf series
+unfolding setOf setWith numberIn series
 returns c = omega arith
 
 pub set-of-spec : {M : Type 1} → statement M
