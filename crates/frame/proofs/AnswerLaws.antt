@@ -110,6 +110,11 @@ module _ (r : Request) (s : Slot) (image m : List ℕ) {f : Fault} (is : f ≡ f
   gives-idle was k h z =
       by-fault (gives-is (ap (answered r m f) (either (λ (d : Deed). d ≡ idle s image) (isClear f) (λ _. k) (λ _. refl))) (gives-plain r m f s image was h z))
 
+-- a reply to the same request
+pub gives-request : (s : Slot) (image m : List ℕ) {r r′ : Request} {rep : Reply} {left was holds : List ℕ} → r ≡ r′ → Gives (reply r′ s image m) rep left was holds
+    → Gives (reply r s image m) rep left was holds
+gives-request s image m e g = gives-is (ap (λ (x : Request). reply x s image m) e) g
+
 -- ---- the named slot
 pub served-on : (s : Slot) (image m : List ℕ) → imageIsCard (s .holds) image ≡ true → sound s image ≡ true → served s image m ≡ reply (requestOf (typeByte m)) s image m
 unfolding served

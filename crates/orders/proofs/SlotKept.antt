@@ -18,7 +18,7 @@ use Rattle.card.proofs.ImageLaws.{IsCard}
 use Rattle.slot.specs.declared.Holds.{Holds}
 use Rattle.slot.specs.declared.Holds.the-variants.{Card}
 use Rattle.slot.specs.declared.Slot.{Slot}
-use Rattle.slot.specs.Slots.{occupied, ownType, selecting}
+use Rattle.slot.specs.Slots.{occupied, ownType, selecting, paged, openAs}
 use Rattle.sound.specs.Sound.{fullCode, pageSize}
 use Rattle.sound.proofs.SoundLaws.{Sound, image-sound, selecting-sound, paged-sound, opened-sound, closed-sound}
 use Rattle.codes.proofs.CodeLaws.{accepts-full}
@@ -29,33 +29,28 @@ use Rattle.steps.proofs.Decisions.{Passed, Decided, refused, through, decided, 
 use Rattle.steps.specs.Fits.{Fit}
 use Rattle.orders.proofs.ImageKept.{counter-kept}
 
--- the card stays the same card
-pub slotBy-holds : (f : Facts) (s : Slot) (image b : List ℕ) (o : Order) → slotBy f s image b o .holds ≡ s .holds
-unfolding slotBy
-slotBy-holds f s image b (Order.Refuse status) = refl
-slotBy-holds f s image b Order.Select = refl
-slotBy-holds f s image b (Order.Page p) = refl
-slotBy-holds f s image b (Order.Read at n) = refl
-slotBy-holds f s image b (Order.Counter n) = refl
-slotBy-holds f s image b (Order.Bits at n) = refl
-slotBy-holds f s image b (Order.Write at) = refl
-slotBy-holds f s image b (Order.Protect at) = refl
-slotBy-holds f s image b Order.Present = either (λ (x : Slot). x .holds ≡ s .holds) _ (λ _. refl) (λ _. refl)
-slotBy-holds f s image b Order.Change = refl
+-- what a select, a page and open or closed leave alone, every order leaves alone
+module _ {A : Type 0} (g : Slot → A) (f : Facts) (s : Slot) (image b : List ℕ) (typed : g (selecting (f .selects) s) ≡ g s) (sized : (p : ℕ) → g (paged p s) ≡ g s)
+    (unlocked : (o : Bool) → g (openAs o s) ≡ g s) where
+  slotBy-kept : (o : Order) → g (slotBy f s image b o) ≡ g s
+  unfolding slotBy
+  slotBy-kept (Order.Refuse status) = refl
+  slotBy-kept Order.Select = typed
+  slotBy-kept (Order.Page p) = sized p
+  slotBy-kept (Order.Read at n) = refl
+  slotBy-kept (Order.Counter n) = refl
+  slotBy-kept (Order.Bits at n) = refl
+  slotBy-kept (Order.Write at) = refl
+  slotBy-kept (Order.Protect at) = refl
+  slotBy-kept Order.Present = either (λ (x : Slot). g x ≡ g s) _ (λ _. unlocked true) (λ _. unlocked false)
+  slotBy-kept Order.Change = refl
 
--- no command changes the parameters
+-- the card stays the same card, and the parameters stay
+pub slotBy-holds : (f : Facts) (s : Slot) (image b : List ℕ) (o : Order) → slotBy f s image b o .holds ≡ s .holds
+slotBy-holds f s image b = slotBy-kept (λ (t : Slot). t .holds) f s image b refl (λ _. refl) (λ _. refl)
+
 pub slotBy-set : (f : Facts) (s : Slot) (image b : List ℕ) (o : Order) → slotBy f s image b o .set ≡ s .set
-unfolding slotBy
-slotBy-set f s image b (Order.Refuse status) = refl
-slotBy-set f s image b Order.Select = refl
-slotBy-set f s image b (Order.Page p) = refl
-slotBy-set f s image b (Order.Read at n) = refl
-slotBy-set f s image b (Order.Counter n) = refl
-slotBy-set f s image b (Order.Bits at n) = refl
-slotBy-set f s image b (Order.Write at) = refl
-slotBy-set f s image b (Order.Protect at) = refl
-slotBy-set f s image b Order.Present = either (λ (x : Slot). x .set ≡ s .set) _ (λ _. refl) (λ _. refl)
-slotBy-set f s image b Order.Change = refl
+slotBy-set f s image b = slotBy-kept (λ (t : Slot). t .set) f s image b refl (λ _. refl) (λ _. refl)
 
 -- the codes 03h..07h give page sizes
 pub page-sized : (v : ℕ) → leb 3 v and leb v 7 ≡ true → pageSize (2 ^ v) ≡ true

@@ -177,3 +177,10 @@ pub t1-told : sending (afterwards .slot) (afterwards .image) getSet .answer
     ≡ 0x82 ∷ 7 ∷ 0 ∷ 0 ∷ 0 ∷ 0 ∷ 6 ∷ 1 ∷ 0 ∷ 1 ∷ 0x95 ∷ 0x13 ∷ 0xFF ∷ 0x9F ∷ 3 ∷ 0xFE ∷ 0 ∷ []
 unfolding rules image4442 lent transfer heard allLeave areBytes
 t1-told = took-told cameIn (image4442 0x07) setT1 between getSet (are-bytes (setT1 .message) refl) refl refl refl refl refl
+
+-- and by calls
+pub t1-called : {r image : List ℕ} → Called (rawOf cameIn) (image4442 0x07) (setT1 ∷ between) r image → {n : ℤ} {left next was holds : List ℕ}
+    → Returns (rawExchange r image (getSet .message) leastRoom) n left next was holds
+    → holds ≡ over (0x82 ∷ 7 ∷ 0 ∷ 0 ∷ 0 ∷ 0 ∷ 6 ∷ 1 ∷ 0 ∷ 1 ∷ 0x95 ∷ 0x13 ∷ 0xFF ∷ 0x9F ∷ 3 ∷ 0xFE ∷ 0 ∷ []) was
+unfolding rules image4442 lent transfer heard allLeave areBytes
+t1-called calls given = calls-told cameIn (image4442 0x07) setT1 between getSet (are-bytes (setT1 .message) refl) refl refl refl calls refl refl given

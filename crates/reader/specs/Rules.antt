@@ -9,7 +9,7 @@ use Rattle.codes.specs.Counters.{spent}
 use Rattle.codes.specs.Codes.{spending, judging, presenting, accepts}
 use Rattle.pages.specs.Pages.{cutStart, lands, pageWrite, written}
 use Rattle.reads.specs.Reads.{visible, bytesRead, counterRead}
-use Rattle.sets.specs.Sets.{setWith, defaultSet, lengthOf, fitsLength, reservedFI, reservedDI, longWait, faultAt, setOf, takes}
+use Rattle.sets.specs.Sets.{setWith, defaultSet, lengthOf, fitsLength, longWait, faultAt, setOf, takes}
 use Rattle.card.specs.Images.{isCard}
 use Rattle.sound.specs.Sound.{pageSize, emptySound, idleSound, typeSound, openSound, setSound, sound}
 use Rattle.steps.specs.Steps.{insOf, steps, order}
@@ -21,7 +21,7 @@ use Rattle.reader.specs.Runs.{run}
 
 unfoldable pub rules : ℕ
 unfolding trailingZeros _⇒_⁏_ _and_ _or_ _means_ same fourBytes fourAt numberIn byteOf lowFirst over series chipAmong chipOf spent cleared protectionBit isProtected
-    firstProtected protecting protectEqual packed packedBytes setWith defaultSet lengthOf fitsLength reservedFI reservedDI longWait
+    firstProtected protecting protectEqual packed packedBytes setWith defaultSet lengthOf fitsLength longWait
     faultAt setOf takes isCard pageSize emptySound idleSound typeSound openSound setSound sound visible bytesRead
     counterRead cutStart lands pageWrite written spending judging presenting accepts insOf steps order saidBy imageBy slotBy performed commanded reset
     requestOf faultOf cardState bStatus byte9 header answer deed replied reply served exchange insertedAs insertion run

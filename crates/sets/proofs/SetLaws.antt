@@ -13,7 +13,7 @@ use Rattle.words.specs.Bytes.{AllBytes, byte, numberIn, byteOf, series}
 use Rattle.words.proofs.Choices.{either, first, rest, and-true, and-fails, or-true, or-end, both}
 use Rattle.words.proofs.Lists.{length-series, series-part, series-at, tail-is}
 use Rattle.words.proofs.Numbers.{byte-number}
-use Rattle.sets.specs.Sets.{setWith, defaultSet, protocolOf, ifsc, nad, lengthOf, bytesOf, fitsLength, reservedFI, reservedDI, longWait, faultAt, setOf, takes}
+use Rattle.sets.specs.Sets.{setWith, defaultSet, protocolOf, ifsc, nad, lengthOf, bytesOf, fitsLength, longWait, faultAt, setOf, takes}
 
 -- ---- the lengths that fit
 pub fits-none : (p n : ℕ) → p ≡ 0 → fitsLength p n ≡ (n is 5)
@@ -105,5 +105,5 @@ named-bytes m b e =
 
 -- ---- the default
 pub default-taken : takes defaultSet ≡ true
-unfolding takes faultAt lengthOf fitsLength reservedFI reservedDI longWait defaultSet setWith numberIn byteOf _⇒_⁏_ _and_ _or_
+unfolding takes faultAt lengthOf fitsLength longWait defaultSet setWith numberIn byteOf _⇒_⁏_ _and_ _or_
 default-taken = refl

@@ -56,10 +56,10 @@ unfoldable pub fitsLength : ℕ → ℕ → Bool
 fitsLength protocol n = protocol is 0 and n is 5 or protocol is 1 and n is 7
 
 -- "an FI or DI entry that ISO/IEC 7816-3:1997 reserves", of the sixteen that four bits name: FI 7, 8, 14, 15; DI 0, 7, 10 to 15
-unfoldable pub reservedFI : ℕ → Bool
+abbrev pub reservedFI : ℕ → Bool
 reservedFI i = i is 7 or i is 8 or leb 14 i
 
-unfoldable pub reservedDI : ℕ → Bool
+abbrev pub reservedDI : ℕ → Bool
 reservedDI i = i is 0 or i is 7 or leb 10 i
 
 -- "checksum byte upper bits not 000000b (T=0) or 000100b (T=1)": the upper six

@@ -7,8 +7,10 @@ use words::wide;
 ghost use mathlib.Core.Path.{_≡_};
 ghost use Prim.Native.Nat.{_≤_};
 ghost use lib.ListN.{length};
+ghost use lib.Dec.{leb};
+ghost use Rattle.words.specs.Choice.{_or_, _is_};
 ghost use Rattle.words.specs.Bytes.{over};
-ghost use Rattle.sets.specs.Sets.{defaultSet, lengthOf, bytesOf, fitsLength, reservedFI, reservedDI, upperBits, longWait, faultAt, setOf, takes};
+ghost use Rattle.sets.specs.Sets.{defaultSet, lengthOf, bytesOf, fitsLength, upperBits, longWait, faultAt, setOf, takes};
 
 // The default: T=0 with 11 00 00 0A 00.
 pub fn default_set() -> usize
@@ -77,30 +79,17 @@ fn fits_length(protocol: u8, n: usize) -> bool
     false
 }
 
-// An entry of the table of clock rate conversion factors that is reserved.
-fn reserved_fi(entry: u8) -> bool
-    ensures { λ r. ⌜ r ≡ reservedFI entry ⌝ }
+// An entry that is reserved: one of two, or any from the last on.
+fn reserved(entry: u8, one: u8, other: u8, last: u8) -> bool
+    ensures { λ r. ⌜ r ≡ (entry is one or entry is other or leb last entry) ⌝ }
 {
-    if entry == 7 {
+    if entry == one {
         return true;
     }
-    if entry == 8 {
+    if entry == other {
         return true;
     }
-    14 <= entry
-}
-
-// An entry of the table of baud rate conversion factors that is reserved.
-fn reserved_di(entry: u8) -> bool
-    ensures { λ r. ⌜ r ≡ reservedDI entry ⌝ }
-{
-    if entry == 0 {
-        return true;
-    }
-    if entry == 7 {
-        return true;
-    }
-    10 <= entry
+    last <= entry
 }
 
 // The upper six bits of the checksum byte.
@@ -128,10 +117,10 @@ pub fn fault_at(set: usize, n: usize) -> u8
     if !fits_length(protocol, n) {
         return 7;
     }
-    if reserved_fi(byte_of(set, 1) / 16) {
+    if reserved(byte_of(set, 1) / 16, 7, 8, 14) {
         return 10;
     }
-    if reserved_di(byte_of(set, 1) % 16) {
+    if reserved(byte_of(set, 1) % 16, 0, 7, 10) {
         return 10;
     }
     if byte_of(set, 2) / 4 != upper_bits(protocol) {

@@ -46,7 +46,7 @@ paramRows =
     ∷ at4442 params.fiveBits 0x07 (setting 1 (set good1 1 0x14))
     ∷ at4442 params.eightBits 0x07 (setting 0 (set good0 1 0x03))
     ∷ at4442 params.eightBits 0x07 (setting 1 (set good1 1 0x13))
-    ∷ at4442 params.oneChecksum 0x07 (setting 1 (set good1 1 0x00))
+    ∷ at4442 params.eitherChecksum 0x07 (setting 1 (set good1 1 0x00))
     ∷ at4442 params.takesBWI10 0x07 (setting 1 (set good1 3 0xA0))
     ∷ at4442 params.refusesBWI9 0x07 (setting 1 (set good1 3 0x9F))
     ∷ at4442 params.lowerBWI 0x07 (setting 1 (set good1 3 0x1F))

@@ -69,9 +69,9 @@ fiveBits = fielding λ t n. faultAt (bytePut 2 (checksum t - checksum t / 4 % 2 
 abbrev pub eightBits : Reader
 eightBits = fielding λ t n. let at = faultAt t n in at is 0 and checksum t % 4 isnt 0 ⇒ 11 ⁏ at
 
--- asks T=0's checksum bits of T=1 too
-abbrev pub oneChecksum : Reader
-oneChecksum = fielding λ t n. faultAt (bytePut 2 (protocolOf t is 1 and checksum t / 4 is 0 ⇒ 0x10 ⁏ checksum t) t) n
+-- takes T=0's checksum bits for T=1 too
+abbrev pub eitherChecksum : Reader
+eitherChecksum = fielding λ t n. faultAt (bytePut 2 (protocolOf t is 1 and checksum t / 4 is 0 ⇒ 0x10 ⁏ checksum t) t) n
 
 -- ---- 0Dh: the waiting time
 -- lets BWI 10 through

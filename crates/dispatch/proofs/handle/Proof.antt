@@ -3,10 +3,9 @@ use borrow.Author.Needs.{needs}
 use mathlib.Core.Path.{ap}
 use mathlib.Core.Logic.{⊎-elim}
 use Rattle.words.specs.Choice.{_⇒_⁏_}
-use Rattle.faults.specs.Faults.{Request, requestOf}
-use Rattle.faults.proofs.TypeLaws.{other-type}
-use Rattle.frame.specs.Exchange.{reply}
-use Rattle.frame.proofs.AnswerLaws.{gives-is}
+use Rattle.faults.specs.Faults.{requestOf}
+use Rattle.faults.proofs.TypeLaws.{other-type, lone-type}
+use Rattle.frame.proofs.AnswerLaws.{gives-request}
 use Rattle.dispatch.proofs.handle.Statement.{statement}
 use Rattle.dispatch.proofs.handle.Tie as tie
 
@@ -42,12 +41,7 @@ same-length c = search needs
 
 returns : tie.Need-returns
 unfolding requestOf _⇒_⁏_
-returns c =
-    let at-match = c .before .before .before .before in
-    let start = at-match .before .before .before .before .before in
-    let a = start .args in
-    gives-is (ap (λ (r : Request). reply r (a .slot) (a .image .now) (a .msg .now)) (ap requestOf (at-match .match .keys1)))
-    (c .before .before .set-parameters .ensures (a .image .now))
+returns c = gives-request _ _ _ (ap requestOf (c .before .before .before .before .match .keys1)) (c .before .before .set-parameters .ensures _)
 
 same-length-2 : tie.Need-same-length-2
 same-length-2 c = search needs
@@ -57,60 +51,35 @@ same-length-3 c = search needs
 
 returns-2 : tie.Need-returns-2
 unfolding requestOf _⇒_⁏_
-returns-2 c =
-    let at-match = c .before .before .before .before .before in
-    let start = at-match .before .before .before .before .before in
-    let a = start .args in
-    gives-is (ap (λ (r : Request). reply r (a .slot) (a .image .now) (a .msg .now)) (ap requestOf (at-match .match .keys2)))
-    (c .before .before .power-on .ensures)
+returns-2 c = gives-request _ _ _ (ap requestOf (c .before .before .before .before .before .match .keys2)) (c .before .before .power-on .ensures)
 
 same-length-4 : tie.Need-same-length-4
 same-length-4 c = search needs
 
 returns-3 : tie.Need-returns-3
 unfolding requestOf _⇒_⁏_
-returns-3 c =
-    let at-match = c .before .before .before .before in
-    let start = at-match .before .before .before .before .before in
-    let a = start .args in
-    gives-is (ap (λ (r : Request). reply r (a .slot) (a .image .now) (a .msg .now)) (ap requestOf (at-match .match .keys3)))
-    (c .before .before .power-off .ensures (a .image .now))
+returns-3 c = gives-request _ _ _ (ap requestOf (c .before .before .before .before .match .keys3)) (c .before .before .power-off .ensures _)
 
 same-length-5 : tie.Need-same-length-5
 same-length-5 c = search needs
 
 returns-4 : tie.Need-returns-4
 unfolding requestOf _⇒_⁏_
-returns-4 c =
-    let at-match = c .before .before .before .before in
-    let start = at-match .before .before .before .before .before in
-    let a = start .args in
-    gives-is (ap (λ (r : Request). reply r (a .slot) (a .image .now) (a .msg .now)) (ap requestOf (at-match .match .keys4)))
-    (c .before .before .slot-status .ensures (a .image .now))
+returns-4 c = gives-request _ _ _ (ap requestOf (c .before .before .before .before .match .keys4)) (c .before .before .slot-status .ensures _)
 
 same-length-6 : tie.Need-same-length-6
 same-length-6 c = search needs
 
 returns-5 : tie.Need-returns-5
 unfolding requestOf _⇒_⁏_
-returns-5 c =
-    let at-match = c .before .before .before .before in
-    let start = at-match .before .before .before .before .before in
-    let a = start .args in
-    gives-is (ap (λ (r : Request). reply r (a .slot) (a .image .now) (a .msg .now)) (ap requestOf (at-match .match .keys5)))
-    (c .before .before .get-parameters .ensures (a .image .now))
+returns-5 c = gives-request _ _ _ (ap requestOf (c .before .before .before .before .match .keys5)) (c .before .before .get-parameters .ensures _)
 
 same-length-7 : tie.Need-same-length-7
 same-length-7 c = search needs
 
 returns-6 : tie.Need-returns-6
 unfolding requestOf _⇒_⁏_
-returns-6 c =
-    let at-match = c .before .before .before .before in
-    let start = at-match .before .before .before .before .before in
-    let a = start .args in
-    gives-is (ap (λ (r : Request). reply r (a .slot) (a .image .now) (a .msg .now)) (ap requestOf (at-match .match .keys6)))
-    (c .before .before .reset-parameters .ensures (a .image .now))
+returns-6 c = gives-request _ _ _ (ap requestOf (c .before .before .before .before .match .keys6)) (c .before .before .reset-parameters .ensures _)
 
 same-length-8 : tie.Need-same-length-8
 same-length-8 c = search needs
@@ -120,26 +89,13 @@ same-length-9 c = search needs
 
 returns-7 : tie.Need-returns-7
 unfolding requestOf _⇒_⁏_
-returns-7 c =
-    let at-match = c .before .before .before .before .before .before .before in
-    let start = at-match .before .before .before .before .before in
-    let a = start .args in
-    gives-is (ap (λ (r : Request). reply r (a .slot) (a .image .now) (a .msg .now)) (ap requestOf (at-match .match .keys7)))
-    (c .before .before .before .before .transfer .ensures)
+returns-7 c = gives-request _ _ _ (ap requestOf (c .before .before .before .before .before .before .before .match .keys7)) (c .before .before .before .before .transfer .ensures)
 
 same-length-10 : tie.Need-same-length-10
 same-length-10 c = search needs
 
 returns-8 : tie.Need-returns-8
-unfolding requestOf _⇒_⁏_
-returns-8 c =
-    let at-match = c .before .before .before .before in
-    let start = at-match .before .before .before .before .before in
-    let a = start .args in
-    gives-is (ap (λ (r : Request). reply r (a .slot) (a .image .now) (a .msg .now))
-    (⊎-elim (λ w. ⊎-elim (ap requestOf) (ap requestOf) (w .keys8))
-    (λ w. let r = w .rest in other-type _ (r .0 .0 .0 .0 .0 .0 .0 .1) (r .0 .0 .0 .0 .0 .0 .1) (r .0 .0 .0 .0 .0 .1) (r .0 .0 .0 .0 .1) (r .0 .0 .0 .1) (r .0 .0 .1) (r .0 .1))
-    (at-match .match .came))) (c .before .before .unsupported .ensures (a .image .now))
+returns-8 c = gives-request _ _ _ (⊎-elim (λ w. lone-type (w .keys8)) (λ w. other-type _ (w .rest)) (c .before .before .before .before .match .came)) (c .before .before .unsupported .ensures _)
 
 pub handle-spec : {M : Type 1} → statement M
 handle-spec =

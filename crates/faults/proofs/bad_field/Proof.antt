@@ -1,11 +1,10 @@
 -- `bad_field` meets its contract: each arm is its line of the table.
 use borrow.Author.Needs.{needs}
 use mathlib.Core.Path.{sym, ap, _∙_}
-use mathlib.Core.Logic.{⊎-elim}
 use Prim.Native.Nat.{ℕ}
 use Rattle.words.specs.Choice.{_⇒_⁏_}
 use Rattle.faults.specs.Faults.{Request, requestOf, badField}
-use Rattle.faults.proofs.TypeLaws.{other-type}
+use Rattle.faults.proofs.TypeLaws.{other-type, lone-type}
 use Rattle.faults.proofs.bad_field.Statement.{statement}
 use Rattle.faults.proofs.bad_field.Tie as tie
 
@@ -47,14 +46,10 @@ unfolding requestOf _⇒_⁏_
 returns-7 c = c .level-field .ensures ∙ sym (ap (λ (b : ℕ). badField (requestOf b) (c .before .before .before .args .msg .now)) (c .before .match .keys7))
 
 returns-8 : tie.Need-returns-8
-unfolding requestOf _⇒_⁏_
-returns-8 c = sym (ap (λ (q : Request). badField q (c .before .before .args .msg .now)) (⊎-elim (ap requestOf) (ap requestOf) (c .match .keys8)))
+returns-8 c = sym (ap (λ (q : Request). badField q (c .before .before .args .msg .now)) (lone-type (c .match .keys8)))
 
 returns-9 : tie.Need-returns-9
-returns-9 c =
-    let r = c .match .rest in
-    sym (ap (λ (q : Request). badField q (c .before .before .args .msg .now))
-    (other-type _ (r .0 .0 .0 .0 .0 .0 .0 .1) (r .0 .0 .0 .0 .0 .0 .1) (r .0 .0 .0 .0 .0 .1) (r .0 .0 .0 .0 .1) (r .0 .0 .0 .1) (r .0 .0 .1) (r .0 .1)))
+returns-9 c = sym (ap (λ (q : Request). badField q (c .before .before .args .msg .now)) (other-type _ (c .match .rest)))
 
 pub bad-field-spec : {M : Type 1} → statement M
 bad-field-spec =

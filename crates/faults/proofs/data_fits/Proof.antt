@@ -1,11 +1,10 @@
 -- `data_fits` meets its contract: each arm is its line of the table.
 use borrow.Author.Needs.{needs}
 use mathlib.Core.Path.{sym, ap, _∙_}
-use mathlib.Core.Logic.{⊎-elim}
 use Prim.Native.Nat.{ℕ}
 use Rattle.words.specs.Choice.{_⇒_⁏_}
 use Rattle.faults.specs.Faults.{Request, requestOf, dataFits}
-use Rattle.faults.proofs.TypeLaws.{other-type}
+use Rattle.faults.proofs.TypeLaws.{other-type, lone-type}
 use Rattle.faults.proofs.data_fits.Statement.{statement}
 use Rattle.faults.proofs.data_fits.Tie as tie
 
@@ -41,14 +40,10 @@ unfolding requestOf _⇒_⁏_
 returns-7 c = sym (ap (λ (b : ℕ). dataFits (requestOf b) (c .before .args .n)) (c .match .keys7))
 
 returns-8 : tie.Need-returns-8
-unfolding requestOf _⇒_⁏_
-returns-8 c = sym (ap (λ (q : Request). dataFits q (c .before .args .n)) (⊎-elim (ap requestOf) (ap requestOf) (c .match .keys8)))
+returns-8 c = sym (ap (λ (q : Request). dataFits q (c .before .args .n)) (lone-type (c .match .keys8)))
 
 returns-9 : tie.Need-returns-9
-returns-9 c =
-    let r = c .match .rest in
-    sym (ap (λ (q : Request). dataFits q (c .before .args .n))
-    (other-type _ (r .0 .0 .0 .0 .0 .0 .0 .1) (r .0 .0 .0 .0 .0 .0 .1) (r .0 .0 .0 .0 .0 .1) (r .0 .0 .0 .0 .1) (r .0 .0 .0 .1) (r .0 .0 .1) (r .0 .1)))
+returns-9 c = sym (ap (λ (q : Request). dataFits q (c .before .args .n)) (other-type _ (c .match .rest)))
 
 pub data-fits-spec : {M : Type 1} → statement M
 data-fits-spec =

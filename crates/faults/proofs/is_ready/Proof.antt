@@ -1,11 +1,10 @@
 -- `is_ready` meets its contract: each arm is its line of the table.
 use borrow.Author.Needs.{needs}
 use mathlib.Core.Path.{sym, ap, _∙_}
-use mathlib.Core.Logic.{⊎-elim}
 use Prim.Native.Nat.{ℕ}
 use Rattle.words.specs.Choice.{_⇒_⁏_}
 use Rattle.faults.specs.Faults.{Request, requestOf, ready}
-use Rattle.faults.proofs.TypeLaws.{other-type}
+use Rattle.faults.proofs.TypeLaws.{other-type, lone-type}
 use Rattle.faults.proofs.is_ready.Statement.{statement}
 use Rattle.faults.proofs.is_ready.Tie as tie
 
@@ -50,14 +49,10 @@ unfolding requestOf _⇒_⁏_
 returns-7 c = sym (ap (λ (b : ℕ). ready (requestOf b) (c .before .args .slot)) (c .match .keys7))
 
 returns-8 : tie.Need-returns-8
-unfolding requestOf _⇒_⁏_
-returns-8 c = sym (ap (λ (q : Request). ready q (c .before .args .slot)) (⊎-elim (ap requestOf) (ap requestOf) (c .match .keys8)))
+returns-8 c = sym (ap (λ (q : Request). ready q (c .before .args .slot)) (lone-type (c .match .keys8)))
 
 returns-9 : tie.Need-returns-9
-returns-9 c =
-    let r = c .match .rest in
-    sym (ap (λ (q : Request). ready q (c .before .args .slot))
-    (other-type _ (r .0 .0 .0 .0 .0 .0 .0 .1) (r .0 .0 .0 .0 .0 .0 .1) (r .0 .0 .0 .0 .0 .1) (r .0 .0 .0 .0 .1) (r .0 .0 .0 .1) (r .0 .0 .1) (r .0 .1)))
+returns-9 c = sym (ap (λ (q : Request). ready q (c .before .args .slot)) (other-type _ (c .match .rest)))
 
 pub is-ready-spec : {M : Type 1} → statement M
 is-ready-spec =

@@ -1,10 +1,9 @@
 -- `is_supported` meets its contract: each arm is its line of the table.
 use mathlib.Core.Path.{sym, ap}
-use mathlib.Core.Logic.{⊎-elim}
 use Prim.Native.Nat.{ℕ}
 use Rattle.words.specs.Choice.{_⇒_⁏_}
 use Rattle.faults.specs.Faults.{Request, requestOf, supported}
-use Rattle.faults.proofs.TypeLaws.{other-type}
+use Rattle.faults.proofs.TypeLaws.{other-type, lone-type}
 use Rattle.faults.proofs.is_supported.Statement.{statement}
 use Rattle.faults.proofs.is_supported.Tie as tie
 
@@ -37,14 +36,10 @@ unfolding requestOf _⇒_⁏_
 returns-7 c = sym (ap (λ (b : ℕ). supported (requestOf b)) (c .match .keys7))
 
 returns-8 : tie.Need-returns-8
-unfolding requestOf _⇒_⁏_
-returns-8 c = sym (ap (λ (q : Request). supported q) (⊎-elim (ap requestOf) (ap requestOf) (c .match .keys8)))
+returns-8 c = sym (ap (λ (q : Request). supported q) (lone-type (c .match .keys8)))
 
 returns-9 : tie.Need-returns-9
-returns-9 c =
-    let r = c .match .rest in
-    sym (ap (λ (q : Request). supported q)
-    (other-type _ (r .0 .0 .0 .0 .0 .0 .0 .1) (r .0 .0 .0 .0 .0 .0 .1) (r .0 .0 .0 .0 .0 .1) (r .0 .0 .0 .0 .1) (r .0 .0 .0 .1) (r .0 .0 .1) (r .0 .1)))
+returns-9 c = sym (ap (λ (q : Request). supported q) (other-type _ (c .match .rest)))
 
 pub is-supported-spec : {M : Type 1} → statement M
 is-supported-spec =
