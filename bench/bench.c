@@ -3,7 +3,6 @@
 //   bench time ROUNDS    the time of a call, and the ratio as the median, least and most of the rounds
 //   bench count ROUNDS   calls between marks on standard error, for an emulator that logs instructions there
 //   bench steps          the instructions of a call, counted by stepping through them one by one
-//   bench stack          the deepest use of the stack of each function, by painting
 //
 // A row is a state and a message. Before a call the record and one byte of the image are put back, so
 // that every call does the same. The same loop around a function that does nothing is taken off.
@@ -21,8 +20,6 @@ long ptrace(int request, ...);
 void _exit(int status);
 
 typedef int32_t message_call(uint8_t *, size_t, uint8_t *, size_t, const uint8_t *, size_t, uint8_t *, size_t);
-typedef int32_t insert_call(uint8_t *, size_t, uint8_t, const uint8_t *, size_t);
-typedef int32_t remove_call(uint8_t *, size_t);
 
 enum { I2C_SMALL = 1, I2C_256 = 2, I2C_LARGE = 9, SLE4428 = 20, SLE4442 = 30 };
 enum { ROWS = 96, LARGEST = 32768, CALLS = 4, TIMED_CALLS = 500, TIMED_RUNS = 8, MOST_ROUNDS = 999 };
@@ -461,84 +458,6 @@ static void time_rows(unsigned rounds) {
     }
 }
 
-// ---- stack
-
-enum { PAINTED = 8192 };
-
-static volatile uint8_t *stack_now(void) __attribute__((always_inline));
-static inline volatile uint8_t *stack_now(void) {
-    volatile uint8_t *now;
-    __asm__ volatile("mov %%rsp, %0" : "=r"(now));
-    return now;
-}
-
-// How deep below the caller's stack pointer a call wrote, its return address and the arguments that
-// are passed on the stack with it. Two patterns, since a call may write the painted byte itself.
-#define DEPTH(call)                                                                                                  \
-    do {                                                                                                             \
-        for (unsigned pattern = 0; pattern < 2; pattern++) {                                                         \
-            volatile uint8_t *top = stack_now();                                                                     \
-            for (size_t i = 1; i <= PAINTED; i++)                                                                    \
-                top[-(long)i] = (uint8_t)(i * 37 ^ pattern * 0xff);                                                  \
-            call;                                                                                                    \
-            size_t depth = PAINTED;                                                                                  \
-            while (depth > 0 && top[-(long)depth] == (uint8_t)(depth * 37 ^ pattern * 0xff))                         \
-                depth--;                                                                                             \
-            if (depth > deepest)                                                                                     \
-                deepest = depth;                                                                                     \
-        }                                                                                                            \
-        return deepest;                                                                                              \
-    } while (0)
-
-__attribute__((noinline)) static size_t message_depth(message_call *call, const struct row *row) {
-    size_t deepest = 0;
-    make_card(row->kind);
-    DEPTH(call_once(call, row));
-}
-
-__attribute__((noinline)) static size_t insert_depth(insert_call *call, uint8_t in, uint8_t kind, size_t length) {
-    size_t deepest = 0;
-    make_card(kind);
-    memset(record, 0, sizeof record);
-    record[0] = in;
-    DEPTH(call(record, sizeof record, kind, image, length));
-}
-
-__attribute__((noinline)) static size_t remove_depth(remove_call *call, size_t length) {
-    size_t deepest = 0;
-    DEPTH(call(record, length));
-}
-
-static size_t greater(size_t one, size_t other) { return one > other ? one : other; }
-
-static size_t deepest_insert(insert_call *call) {
-    size_t deepest = insert_depth(call, 1, 1, 128);
-    for (unsigned kind = 0; kind < 256; kind++) {
-        size_t length = kind < 10 || kind == SLE4428 || kind == SLE4442 ? image_len_of((uint8_t)kind) : 0;
-        deepest = greater(deepest, insert_depth(call, 0, (uint8_t)kind, length));
-        deepest = greater(deepest, insert_depth(call, 0, (uint8_t)kind, length + 1));
-    }
-    return deepest;
-}
-
-// Function, bytes of the library and of C, the library's deepest row.
-static void stack(void) {
-    size_t ours = 0, theirs = 0, where = 0;
-    for (size_t i = 0; i < row_count; i++) {
-        size_t depth = message_depth(library, &rows[i]);
-        if (depth > ours) {
-            ours = depth;
-            where = i;
-        }
-        theirs = greater(theirs, message_depth(plain, &rows[i]));
-    }
-    printf("card_reader_message\t%zu\t%zu\t%s, %s\n", ours, theirs, rows[where].name, card_of(rows[where].kind));
-    printf("card_reader_insert\t%zu\t%zu\t\n", deepest_insert(card_reader_insert), deepest_insert(plain_insert));
-    ours = greater(remove_depth(card_reader_remove, 32), remove_depth(card_reader_remove, 31));
-    theirs = greater(remove_depth(plain_remove, 32), remove_depth(plain_remove, 31));
-    printf("card_reader_remove\t%zu\t%zu\t\n", ours, theirs);
-}
-
 int main(int argc, char **argv) {
     unsigned rounds = 0;
     for (const char *digit = argc == 3 ? argv[2] : ""; *digit >= '0' && *digit <= '9' && rounds < 100; digit++)
@@ -552,10 +471,8 @@ int main(int argc, char **argv) {
         count(rounds);
     else if (argc == 2 && !strcmp(argv[1], "steps"))
         return step_rows();
-    else if (argc == 2 && !strcmp(argv[1], "stack"))
-        stack();
     else {
-        dprintf(2, "usage: bench time ROUNDS | count ROUNDS | steps | stack\n");
+        dprintf(2, "usage: bench time ROUNDS | count ROUNDS | steps\n");
         return 2;
     }
     return 0;

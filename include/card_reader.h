@@ -3,7 +3,8 @@
  * Link libcard_reader.a, which `rt staticlib card_reader` writes to target/staticlib/. The library allocates nothing, keeps nothing
  * between calls, has no globals and calls nothing of C's: all it knows stands in the record and the image that the
  * caller lends it.
- * Any bytes may come as record, image and message; every call has its one result, which is proved.
+ * Any bytes may come as record, image and message; every call has its one result, which is proved. No call takes more than
+ * 512 bytes of stack, which is measured: docs/GUIDE.md has the figures and what they include.
  *
  * Each slice is a pointer and a length in bytes. What the caller has to see to, as for any C function:
  *   - so many bytes are there, and may be written where the pointer is not to const; of length 0 nothing is touched;
