@@ -66,6 +66,22 @@ static int32_t measured(void (*function)(void), const uintptr_t *arguments, size
     return result;
 }
 
+/* ---- what a call is: a message of a type, one with a command, any message that is turned down, an insertion, a removal */
+
+enum { OTHER, T61, T62, T63, T65, T6C, T6D, T6F, A4, C01, B0, B1, B2, D0, D1, C20, D2, MESSAGE, INSERTION, REMOVAL, SUBJECTS };
+
+static const uint8_t types[] = { 0x61, 0x62, 0x63, 0x65, 0x6c, 0x6d, 0x6f };
+static const uint8_t commands[] = { 0xa4, 0x01, 0xb0, 0xb1, 0xb2, 0xd0, 0xd1, 0x20, 0xd2 };
+static const char *const subjects[SUBJECTS] = {
+    "another type", "61h", "62h", "63h", "65h", "6Ch", "6Dh", "6Fh",         "A4",           "01",
+    "B0",           "B1",  "B2",  "D0",  "D1",  "20",  "D2",  "any message", "an insertion", "a removal",
+};
+
+#define OF(subject) (1u << (subject))
+#define ALL_TYPES (OF(T61) | OF(T62) | OF(T63) | OF(T65) | OF(T6C) | OF(T6D) | OF(T6F))
+#define SETTING (OF(T61) | OF(T62) | OF(T6C) | OF(T6D))
+#define COMMANDS (OF(A4) | OF(C01) | OF(B0) | OF(B1) | OF(B2) | OF(D0) | OF(D1) | OF(C20) | OF(D2))
+
 /* ---- the cards */
 
 enum { NONE, I2C, CODE_28, CODE_42 };
@@ -92,9 +108,19 @@ static const struct kind {
     { "an unknown kind", 0, 0, 128, 128, NONE },
 };
 
-/* Where the counter is, a full one, how long the code is, and a place with a value that no card has there. */
-static const struct { size_t counter; uint8_t full; size_t code, spoilt; uint8_t spoil; } codes[] = {
-    { 0, 0, 0, 0, 0 }, { 0, 0, 0, 0, 0 }, { 0x3fd, 0xff, 2, 1024 + 0x3fd / 8, 0xdf }, { 260, 0x07, 3, 260, 0x08 },
+/* The commands of a card; its counter's place, a full one, how long its code is, how many protection bytes it has, and a
+ * place with a value that no card has there. */
+static const struct {
+    unsigned has;
+    size_t counter;
+    uint8_t full;
+    size_t code, protection, spoilt;
+    uint8_t spoil;
+} families[] = {
+    { 0, 0, 0, 0, 0, 0, 0 },
+    { OF(A4) | OF(C01) | OF(B0) | OF(D0), 0, 0, 0, 0, 0, 0 },
+    { COMMANDS & ~(OF(C01) | OF(D2)), 0x3fd, 0xff, 2, 128, 1024 + 0x3fd / 8, 0xdf },
+    { COMMANDS & ~OF(C01), 260, 0x07, 3, 4, 260, 0x08 },
 };
 
 static uint8_t record[CARD_READER_RECORD + 1], image[LARGEST + 1], answer[CARD_READER_ROOM], message[300];
@@ -109,24 +135,14 @@ static void make_card(uint8_t *to, const struct kind *kind, uint8_t counter, uin
         to[i] = memory_byte(i);
     if (kind->family < CODE_28)
         return;
-    memset(to + kind->memory, protection, kind->family == CODE_28 ? 128 : 4);
-    to[codes[kind->family].counter] = counter;
-    memcpy(to + codes[kind->family].counter + 1, "\x11\x22\x33", codes[kind->family].code);
+    memset(to + kind->memory, protection, families[kind->family].protection);
+    to[families[kind->family].counter] = counter;
+    memcpy(to + families[kind->family].counter + 1, "\x11\x22\x33", families[kind->family].code);
     if (kind->family == CODE_28)
         to[1024 + 0x3fd / 8] |= 1 << 0x3fd % 8;
 }
 
-/* ---- situations: on which kind, of what, and what came of it */
-
-/* Of what: the types, another one, the commands, a whole call that is turned down or done. */
-enum { OTHER, T61, T62, T63, T65, T6C, T6D, T6F, A4, C01, B0, B1, B2, D0, D1, C20, D2, MESSAGE, INSERTION, REMOVAL, SUBJECTS };
-
-static const uint8_t types[] = { 0x61, 0x62, 0x63, 0x65, 0x6c, 0x6d, 0x6f };
-static const uint8_t commands[] = { 0xa4, 0x01, 0xb0, 0xb1, 0xb2, 0xd0, 0xd1, 0x20, 0xd2 };
-static const char *const subjects[SUBJECTS] = {
-    "another type", "61h", "62h", "63h", "65h", "6Ch", "6Dh", "6Fh",         "A4",           "01",
-    "B0",           "B1",  "B2",  "D0",  "D1",  "20",  "D2",  "any message", "an insertion", "a removal",
-};
+/* ---- situations: on which kind of card, what call, and what came of it */
 
 /* What came: a status word, of which 69 82 is told apart by whether the card was open and 90xx stands for a code
  * command's 90 with tries left; or one of these. */
@@ -134,15 +150,10 @@ enum { DONE = 0, OPEN = 0x10000, TRIES = 0x90ff, FAILED = 0x20000, REFUSED = 0x3
 
 enum { IS_NONE = 1 << NONE, IS_I2C = 1 << I2C, IS_28 = 1 << CODE_28, IS_42 = 1 << CODE_42 };
 enum { IS_CODE = IS_28 | IS_42, IS_CARD = IS_I2C | IS_CODE, ANY = IS_NONE | IS_CARD };
-#define OF(subject) (1u << (subject))
-#define ALL_TYPES (OF(T61) | OF(T62) | OF(T63) | OF(T65) | OF(T6C) | OF(T6D) | OF(T6F))
-#define SETTING (OF(T61) | OF(T62) | OF(T6C) | OF(T6D))
-#define I2C_HAS (OF(A4) | OF(C01) | OF(B0) | OF(D0))
-#define CODE_28_HAS (OF(A4) | OF(B0) | OF(B1) | OF(B2) | OF(D0) | OF(D1) | OF(C20))
-#define CODE_42_HAS (CODE_28_HAS | OF(D2))
-#define COMMANDS (CODE_42_HAS | OF(C01))
+/* For a rule about all commands that the card has, or lacks. */
+enum { ITS_OWN = 1 << 30, NOT_ITS = 1 << 29 };
 
-/* What the rules have, in their order: the cards, the subjects, the outcome. */
+/* What the rules have, in their order: the cards, the calls, the outcome. */
 static const struct { unsigned cards, subjects, outcome; } rules[] = {
     { ANY, OF(MESSAGE), REFUSED | 1 },
     { ANY, OF(MESSAGE), REFUSED | 2 },
@@ -172,23 +183,15 @@ static const struct { unsigned cards, subjects, outcome; } rules[] = {
     { IS_CARD, OF(T6F), 0x6e00 },
     { IS_CARD, OF(T6F), 0x6d00 },
     { IS_CARD, COMMANDS & ~OF(A4), 0x6985 },
-    { IS_I2C, COMMANDS & ~I2C_HAS, 0x6d00 },
-    { IS_28, COMMANDS & ~CODE_28_HAS, 0x6d00 },
-    { IS_42, COMMANDS & ~CODE_42_HAS, 0x6d00 },
-    { IS_I2C, I2C_HAS, 0x6700 },
-    { IS_28, CODE_28_HAS, 0x6700 },
-    { IS_42, CODE_42_HAS, 0x6700 },
-    { IS_I2C, I2C_HAS, 0x6b00 },
-    { IS_28, CODE_28_HAS, 0x6b00 },
-    { IS_42, CODE_42_HAS, 0x6b00 },
+    { IS_CARD, NOT_ITS, 0x6d00 },
+    { IS_CARD, ITS_OWN, 0x6700 },
+    { IS_CARD, ITS_OWN, 0x6b00 },
     { IS_CARD, OF(A4), 0x6a80 },
     { IS_I2C, OF(C01), 0x6a80 },
     { IS_CODE, OF(D0) | OF(D1), 0x6982 },
     { IS_42, OF(D2), 0x6982 },
     { IS_CODE, OF(D0), OPEN | 0x6982 },
-    { IS_I2C, I2C_HAS, 0x9000 },
-    { IS_28, CODE_28_HAS, 0x9000 },
-    { IS_42, CODE_42_HAS, 0x9000 },
+    { IS_CARD, ITS_OWN, 0x9000 },
     { IS_CODE, OF(C20), TRIES },
 };
 enum { RULES = sizeof rules / sizeof rules[0] };
@@ -197,10 +200,16 @@ static unsigned came[RULES][KINDS + 1][SUBJECTS], beside;
 
 static int allows(size_t rule, size_t kind, size_t subject)
 {
+    unsigned of;
     /* An unknown kind is put in and nothing else. */
     if (kind == NONE ? subject == INSERTION : kind == KINDS && subject != INSERTION)
         return 0;
-    return (rules[rule].cards >> kinds[kind].family & 1) && (rules[rule].subjects >> subject & 1);
+    of = rules[rule].subjects;
+    if (of == ITS_OWN)
+        of = families[kinds[kind].family].has;
+    if (of == NOT_ITS)
+        of = COMMANDS & ~families[kinds[kind].family].has;
+    return (rules[rule].cards >> kinds[kind].family & 1) && (of >> subject & 1);
 }
 
 static void print_outcome(unsigned outcome)
@@ -428,7 +437,7 @@ static void send_commands(void)
 /* Commands by their data: A4 and 01 with each value, a code card's with the right code and a wrong one. */
 static void send_values(void)
 {
-    size_t n = codes[kinds[kind_in].family].code;
+    size_t n = families[kinds[kind_in].family].code;
     uint8_t value;
     for (value = 0; value < 9; value++) {
         send_command(0xa4, 0, 1, 1, 0);
@@ -474,9 +483,9 @@ static void send_refused(void)
     call(CARD_READER_RECORD, size - 1, 10, sizeof answer);
     call(CARD_READER_RECORD, size + 1, 10, sizeof answer);
     if (family >= CODE_28) {
-        image[codes[family].spoilt] = codes[family].spoil;
+        image[families[family].spoilt] = families[family].spoil;
         send(10);
-        image[codes[family].spoilt] = kept_image[codes[family].spoilt];
+        image[families[family].spoilt] = kept_image[families[family].spoilt];
     }
 }
 
@@ -519,7 +528,7 @@ static void every_message(void)
     for (kind_in = 0; kind_in < KINDS; kind_in++) {
         const struct kind *kind = &kinds[kind_in];
         for (i = 0; i < (kind->family < CODE_28 ? 1 : sizeof protections); i++) {
-            make_card(kept_image, kind, codes[kind->family].full, protections[i]);
+            make_card(kept_image, kind, families[kind->family].full, protections[i]);
             on_each_state(kind->family >= CODE_28);
             /* Two tries, one, none. */
             if (kind->family >= CODE_28) {
@@ -558,7 +567,7 @@ static void every_insertion(void)
             row++;
         size = kinds[row].image;
         family = kinds[row].family;
-        make_card(image, &kinds[row], codes[family].full, 0xff);
+        make_card(image, &kinds[row], families[family].full, 0xff);
         insert(0, (uint8_t)number, row, CARD_READER_RECORD, size);
         insert(0, (uint8_t)number, row, CARD_READER_RECORD, size + 1);
         insert(0, (uint8_t)number, row, CARD_READER_RECORD, 0);
@@ -568,7 +577,7 @@ static void every_insertion(void)
         insert(0, (uint8_t)number, row, CARD_READER_RECORD + 1, size);
         insert(0, (uint8_t)number, row, 0, 0);
         if (family >= CODE_28) {
-            image[codes[family].spoilt] = codes[family].spoil;
+            image[families[family].spoilt] = families[family].spoil;
             insert(0, (uint8_t)number, row, CARD_READER_RECORD, size);
         }
     }
