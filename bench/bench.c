@@ -21,8 +21,8 @@ void _exit(int status);
 
 typedef int32_t message_call(uint8_t *, size_t, uint8_t *, size_t, const uint8_t *, size_t, uint8_t *, size_t);
 
-enum { I2C_SMALL = 1, I2C_256 = 2, I2C_LARGE = 9, SLE4428 = 20, SLE4442 = 30 };
-enum { ROWS = 96, LARGEST = 32768, CALLS = 4, TIMED_CALLS = 500, TIMED_RUNS = 8, MOST_ROUNDS = 999 };
+enum { I2C_SMALL = 1, I2C_256 = 2, I2C_LARGE = 9, SLE4428 = 20, SLE4418 = 21, SLE4442 = 30, SLE4432 = 31 };
+enum { ROWS = 112, LARGEST = 32768, CALLS = 4, TIMED_CALLS = 500, TIMED_RUNS = 8, MOST_ROUNDS = 999 };
 
 struct row {
     const char *name;
@@ -44,8 +44,14 @@ static const uint8_t bad_set[8] = { 1, 0x95, 0x11, 0xff, 0x9f, 0x03, 0xfe, 0x01 
 // ---- the cards
 
 static size_t image_len_of(uint8_t kind) {
-    return kind == SLE4442 ? 264 : kind == SLE4428 ? 1152 : (size_t)64 << kind;
+    return kind >= SLE4442 ? 264 : kind >= SLE4428 ? 1152 : (size_t)64 << kind;
 }
+
+// The type that selects the card.
+static uint8_t type_of(uint8_t kind) { return kind >= SLE4442 ? 6 : kind >= SLE4428 ? 5 : kind < 6 ? 1 : 2; }
+
+// Whether the card has a counter and a code.
+static int has_code(uint8_t kind) { return kind == SLE4442 || kind == SLE4428; }
 
 static const char *card_of(uint8_t kind) {
     switch (kind) {
@@ -54,6 +60,8 @@ static const char *card_of(uint8_t kind) {
     case I2C_256: return "I2C 256 bytes";
     case I2C_LARGE: return "I2C 32 KiB";
     case SLE4428: return "SLE4428";
+    case SLE4418: return "SLE4418";
+    case SLE4432: return "SLE4432";
     default: return "SLE4442";
     }
 }
@@ -62,18 +70,18 @@ static size_t counter_of(uint8_t kind) { return kind == SLE4442 ? 260 : 0x3fd; }
 
 static uint8_t memory_byte(size_t at) { return (uint8_t)(at * 7 + 1); }
 
-// A card with nothing protected, a full counter and the code 11 22 33.
+// A card with nothing protected and, where it has a code, a full counter and the code 11 22 33.
 static void make_card(uint8_t kind) {
     for (size_t i = 0; i < LARGEST; i++)
         image[i] = memory_byte(i);
-    if (kind == SLE4442) {
+    if (type_of(kind) == 6) {
         memset(image + 256, 0xff, 4);
-        memcpy(image + 260, "\x07\x11\x22\x33", 4);
+        memcpy(image + 260, has_code(kind) ? "\x07\x11\x22\x33" : "\0\0\0", 4);
     }
-    if (kind == SLE4428) {
-        memcpy(image + 0x3fd, "\xff\x11\x22", 3);
+    if (type_of(kind) == 5)
         memset(image + 1024, 0xff, 128);
-    }
+    if (kind == SLE4428)
+        memcpy(image + 0x3fd, "\xff\x11\x22", 3);
 }
 
 // ---- the rows
@@ -81,7 +89,6 @@ static void make_card(uint8_t kind) {
 // A row on a card whose type is selected, with a message of the type and 10 + n bytes.
 static struct row *add(const char *name, uint8_t kind, uint8_t type, size_t n) {
     struct row *row = &rows[row_count++];
-    int code = kind == SLE4428 || kind == SLE4442;
     row->name = name;
     row->kind = kind;
     row->record_len = 32;
@@ -90,14 +97,14 @@ static struct row *add(const char *name, uint8_t kind, uint8_t type, size_t n) {
     row->answer_len = sizeof answer;
     row->record[0] = kind;
     row->record[1] = 1;
-    row->record[2] = (uint8_t)(kind == SLE4428 ? 5 : kind == SLE4442 ? 6 : kind < 6 ? 1 : 2);
+    row->record[2] = type_of(kind);
     row->record[3] = 8;
     memcpy(row->record + 5, default_set, 8);
     row->message[0] = type;
     row->message[1] = (uint8_t)n;
     row->message[2] = (uint8_t)(n >> 8);
     row->message[6] = 7;
-    row->poke_at = code ? counter_of(kind) : 0;
+    row->poke_at = has_code(kind) ? counter_of(kind) : 0;
     row->poke = (uint8_t)(kind == SLE4442 ? 0x07 : kind == SLE4428 ? 0xff : 1);
     return row;
 }
@@ -136,7 +143,7 @@ static void add_read(const char *name, uint8_t kind, size_t at, size_t p3) { add
 
 static struct row *add_write(const char *name, uint8_t kind, size_t at, size_t p3) {
     struct row *row = add_command(name, kind, 0xd0, at, p3, p3);
-    return kind >= SLE4428 ? open_card(row) : row;
+    return has_code(kind) ? open_card(row) : row;
 }
 
 static void add_code(const char *name, uint8_t kind, const char *code, uint8_t counter) {
@@ -158,6 +165,7 @@ static void make_rows(void) {
     add_read("read 255 bytes", I2C_LARGE, 0x4100, 255);
     add_read("read 255 bytes", SLE4442, 0, 255);
     add_read("read 255 bytes, closed", SLE4428, 0x301, 255);
+    add_read("read 255 bytes", SLE4418, 0x301, 255);
 
     add_write("write 1 byte", I2C_SMALL, 0x20, 1);
     add_write("write 1 byte", I2C_LARGE, 0x4120, 1);
@@ -171,6 +179,9 @@ static void make_rows(void) {
     add_write("write 16 bytes", SLE4428, 0x10, 16);
     add_write("write 255 bytes", SLE4442, 0, 255);
     add_write("write 255 bytes", SLE4428, 3, 255);
+    add_write("write 16 bytes", SLE4432, 0x10, 16);
+    add_write("write 16 bytes", SLE4418, 0x10, 16);
+    add_write("write 255 bytes", SLE4418, 3, 255);
 
     for (size_t i = 0; i < 2; i++) {
         uint8_t full = (uint8_t)(codes[i] == SLE4442 ? 0x07 : 0xff);
@@ -182,9 +193,11 @@ static void make_rows(void) {
     add_command("protection bits of 32 bytes", SLE4442, 0xb2, 0, 4, 0);
     add_command("protection bits of 32 bytes", SLE4428, 0xb2, 0x40, 4, 0);
     add_command("protection bits of 256 bytes", SLE4428, 0xb2, 0x40, 32, 0);
+    add_command("protection bits of 256 bytes", SLE4418, 0xb2, 0x40, 32, 0);
     add_command("protection bits of 256 bytes from 43h", SLE4428, 0xb2, 0x43, 32, 0);
     open_card(add_command("protect 32 bytes", SLE4442, 0xd1, 0, 32, 32));
     open_card(add_command("protect 32 bytes", SLE4428, 0xd1, 0x40, 32, 32));
+    add_command("protect 32 bytes", SLE4418, 0xd1, 0x3e0, 32, 32);
 
     for (size_t i = 0; i < 2; i++) {
         add_command("refused, 1: short buffer", ends[i], 0xb0, 0, 16, 0)->answer_len--;
@@ -202,6 +215,8 @@ static void make_rows(void) {
         add_command("step 5: not this card's", ends[i], 0xb1, 0, 4, 0);
         add_command("step 7: past the memory", ends[i], 0xb0, image_len_of(ends[i]) - 15, 16, 0);
     }
+    add("refused, 3: last byte of the image", SLE4432, 0x65, 0)->poke_at = 263;
+    add_command("step 5: not this card's", SLE4432, 0x20, 0, 3, 3);
     for (size_t i = 0; i < 2; i++) {
         add_command("step 9: write while closed", codes[i], 0xd0, 0x10, 16, 16);
         row = add_write("step 10: last of 16 protected", codes[i], 0x10, 16);
@@ -215,6 +230,7 @@ static void make_rows(void) {
         add_command("read the counter", codes[i], 0xb1, 0, codes[i] == SLE4442 ? 4 : 3, 0);
         add("power on", codes[i], 0x62, 0);
     }
+    add("power on", SLE4432, 0x62, 0);
     row = open_card(add_command("change the code", SLE4442, 0xd2, 1, 3, 3));
     memcpy(row->message + 15, "\x11\x22\x33", 3);
     for (size_t i = 0; i < 2; i++) {
@@ -223,6 +239,7 @@ static void make_rows(void) {
         add("power off", ends[i], 0x63, 0);
         add("slot status", ends[i], 0x65, 0);
     }
+    add("slot status", SLE4432, 0x65, 0);
     row = add("slot status", 0, 0x65, 0);
     row->image_len = 0;
     memset(row->record, 0, 3);
@@ -299,7 +316,7 @@ static int both_agree_on(uint8_t in, uint8_t fill, size_t length, uint8_t kind) 
 
 // The same of cards that go in and out, over records whatever is in them.
 static int both_agree_on_cards(void) {
-    static const uint8_t kinds[] = { I2C_SMALL, I2C_LARGE, SLE4428, SLE4442 };
+    static const uint8_t kinds[] = { I2C_SMALL, I2C_LARGE, SLE4428, SLE4418, SLE4442, SLE4432 };
     for (size_t i = 0; i < sizeof kinds; i++)
         for (unsigned fill = 0; fill < 256; fill += 51)
             for (size_t length = 31; length <= 32; length++)

@@ -8,7 +8,8 @@ enum { RECORD = 32, HEADER = 10, ANSWER_BUFFER = 271, LONGEST_DATA = 261 };
 enum { KIND = 0, ACTIVE = 1, SELECTED = 2, PAGE = 3, OPEN = 4, PROTOCOL = 5, SET = 6 };
 enum { SET_PARAMETERS = 0x61, POWER_ON = 0x62, POWER_OFF = 0x63, SLOT_STATUS = 0x65 };
 enum { GET_PARAMETERS = 0x6c, RESET_PARAMETERS = 0x6d, TRANSFER = 0x6f };
-enum { SLE4428 = 0x05, SLE4442 = 0x06 };
+enum { SLE4428 = 20, SLE4418 = 21, SLE4442 = 30, SLE4432 = 31 };
+enum { TYPE_05 = 0x05, TYPE_06 = 0x06 };
 enum { REFUSED_BUFFER = -1, REFUSED_MESSAGE = -2, REFUSED_IMAGE = -3, REFUSED_RECORD = -4, REFUSED_OCCUPIED = -5 };
 enum {
     DONE = 0x9000,
@@ -25,14 +26,16 @@ enum {
 // B2 bring no data.
 enum { A4 = 1, B0, B1, B2, C01, D0, D1, C20, D2 };
 enum { OF_I2C = 1 << A4 | 1 << C01 | 1 << B0 | 1 << D0 };
-enum { OF_4428 = 1 << A4 | 1 << B0 | 1 << B1 | 1 << B2 | 1 << D0 | 1 << D1 | 1 << C20, OF_4442 = OF_4428 | 1 << D2 };
+enum { OF_NO_CODE = 1 << A4 | 1 << B0 | 1 << B2 | 1 << D0 | 1 << D1 };
+enum { OF_4428 = OF_NO_CODE | 1 << B1 | 1 << C20, OF_4442 = OF_4428 | 1 << D2 };
 
 static const uint8_t place_of[256] = {
     [0xa4] = A4, [0x01] = C01, [0xb0] = B0, [0xb1] = B1, [0xb2] = B2,
     [0xd0] = D0, [0xd1] = D1, [0x20] = C20, [0xd2] = D2,
 };
 
-// A row of the cards. An image length of 0 is no kind; a full counter of 0 is no code card.
+// A row of the cards. An image length of 0 is no kind; a page of 0 is a card with protection bits; a full
+// counter of 0 is no code card, and where such a card has bits, the counter's place is past the image.
 struct chip {
     uint16_t image, memory, commands, counter, protection, protectable, d1_end;
     uint8_t select, page, full, code_len;
@@ -43,8 +46,10 @@ static const struct chip chips[] = {
     [1] = I2C(128, 8, 1),     [2] = I2C(256, 8, 1),     [3] = I2C(512, 16, 1),
     [4] = I2C(1024, 16, 1),   [5] = I2C(2048, 16, 1),   [6] = I2C(4096, 32, 2),
     [7] = I2C(8192, 32, 2),   [8] = I2C(16384, 64, 2),  [9] = I2C(32768, 64, 2),
-    [20] = { 1152, 1024, OF_4428, 0x3fd, 1024, 1024, 0x3fd, SLE4428, 0, 0xff, 2 },
-    [30] = { 264, 256, OF_4442, 260, 256, 32, 32, SLE4442, 0, 0x07, 3 },
+    [SLE4428] = { 1152, 1024, OF_4428, 0x3fd, 1024, 1024, 0x3fd, TYPE_05, 0, 0xff, 2 },
+    [SLE4418] = { 1152, 1024, OF_NO_CODE, 1152, 1024, 1024, 1024, TYPE_05, 0, 0, 0 },
+    [SLE4442] = { 264, 256, OF_4442, 260, 256, 32, 32, TYPE_06, 0, 0x07, 3 },
+    [SLE4432] = { 264, 256, OF_NO_CODE, 264, 256, 32, 32, TYPE_06, 0, 0, 0 },
 };
 
 // The chip of a kind that the image is one of, or none.
@@ -54,9 +59,11 @@ static inline const struct chip *chip_of(uint8_t kind, const uint8_t *image, siz
     const struct chip *chip = &chips[kind];
     if (image_len != chip->image || image_len == 0)
         return NULL;
-    if (chip->full == 0x07 && image[260] > 0x07)
+    if (kind == SLE4442 && image[260] > 0x07)
         return NULL;
-    if (chip->full == 0xff && !(image[1024 + 0x3fd / 8] & 1 << 0x3fd % 8))
+    if (kind == SLE4428 && !(image[1024 + 0x3fd / 8] & 1 << 0x3fd % 8))
+        return NULL;
+    if (kind == SLE4432 && (image[260] | image[261] | image[262] | image[263]))
         return NULL;
     return chip;
 }
@@ -121,6 +128,9 @@ static inline int is_sound(const uint8_t *record, const struct chip *chip, const
         return 0;
     return !open || (selected && chip->full && image[chip->counter] == chip->full);
 }
+
+// Whether the card waits for its code: one without never does.
+static inline int is_locked(const uint8_t *record, const struct chip *chip) { return !record[OPEN] && chip->full; }
 
 // The bits first..7 and 0..last of a byte.
 #define FROM(first) (0xffu << (first) & 0xffu)
@@ -229,7 +239,7 @@ static inline unsigned command(uint8_t *restrict record, const struct chip *chip
         if (end > chip->memory)
             return WRONG_PLACE;
         memcpy(out, image + at, p3);
-        if (chip->select == SLE4428 && end > 0x3fe && !record[OPEN]) {
+        if (chip->full == 0xff && end > 0x3fe && !record[OPEN]) {
             if (at <= 0x3fe)
                 out[0x3fe - at] = 0;
             if (end > 0x3ff)
@@ -247,7 +257,7 @@ static inline unsigned command(uint8_t *restrict record, const struct chip *chip
             out[3] = 0;
         return BEHIND(p3, DONE);
     case B2:
-        if (chip->select == SLE4442) {
+        if (chip->select == TYPE_06) {
             if (p3 != 4)
                 return WRONG_LENGTH;
             if (at != 0)
@@ -266,13 +276,13 @@ static inline unsigned command(uint8_t *restrict record, const struct chip *chip
             return WRONG_LENGTH;
         if (end > chip->memory)
             return WRONG_PLACE;
-        if (!chip->full) {
+        if (chip->page) {
             write_pages(image, at, data, p3, record[PAGE], chip->page);
             return DONE;
         }
         if (at <= chip->counter && end > chip->counter)
             return WRONG_PLACE;
-        if (!record[OPEN] || !none_protected(chip, image, at, end))
+        if (is_locked(record, chip) || !none_protected(chip, image, at, end))
             return NOT_ALLOWED;
         memcpy(image + at, data, p3);
         return DONE;
@@ -281,7 +291,7 @@ static inline unsigned command(uint8_t *restrict record, const struct chip *chip
             return WRONG_LENGTH;
         if (end > chip->d1_end)
             return WRONG_PLACE;
-        if (!record[OPEN])
+        if (is_locked(record, chip))
             return NOT_ALLOWED;
         for (uint8_t *bits = image + chip->protection; at < end; at++, data++)
             if (image[at] == *data)
@@ -383,10 +393,10 @@ int32_t plain_message(uint8_t *restrict record, size_t record_len, uint8_t *rest
         record[SELECTED] = record[OPEN] = 0;
         set_default(record);
         out[0] = 0x3b;
-        out[1] = chip->full ? 0x04 : 0x00;
-        if (chip->full)
+        out[1] = chip->page ? 0x00 : 0x04;
+        if (!chip->page)
             memcpy(out + 2, image, 4);
-        return answered(answer, message, 0x80, chip->full ? 6 : 2, 0, 0, 0);
+        return answered(answer, message, 0x80, chip->page ? 2 : 6, 0, 0, 0);
     case POWER_OFF:
     case SLOT_STATUS:
         error = said || n ? 0x01 : message[5] ? 0x05 : 0;

@@ -15,7 +15,7 @@
  *   1        active: 0 or 1
  *   2        selected type, 0 for none
  *   3        reader page: 8, 16, 32, 64 or 128
- *   4        open: 0 or 1
+ *   4        open: 0 or 1; a card without a code is never open
  *   5        protocol number of the slot's parameter set: 0 for T=0, 1 for T=1
  *   6 to 12  the set's bytes, as SetParameters has them from its byte 10 on: T=1 has seven; T=0 has five, and bytes 11
  *            and 12 are 00h
@@ -53,18 +53,21 @@ extern "C" {
 #define CARD_READER_I2C_128K 8   /* 16384 */
 #define CARD_READER_I2C_256K 9   /* 32768 */
 #define CARD_READER_SLE4428 20   /* 1152: 1024 memory bytes (3FDh counter, 3FEh and 3FFh code), 128 protection bytes */
+#define CARD_READER_SLE4418 21   /* 1152: 1024 memory bytes, 128 protection bytes; no code */
 #define CARD_READER_SLE4442 30   /* 264: 256 memory bytes, 4 protection bytes, counter, 3 code bytes */
+#define CARD_READER_SLE4432 31   /* 264: 256 memory bytes, 4 protection bytes, 4 bytes 00h; no code */
 
 /* The answer buffer is shorter than CARD_READER_ROOM. */
 #define CARD_READER_E_BUFFER (-1)
 /* The message is shorter than 10 bytes. */
 #define CARD_READER_E_MESSAGE (-2)
 /* The kind is none of the above, or the image is not one of a card of that kind: its length, an SLE4442 counter above
- * 07h, or an SLE4428 whose protection bit for 3FDh is 0. With no card in the slot the image is not looked at. */
+ * 07h, an SLE4428 whose protection bit for 3FDh is 0, or an SLE4432 whose last four bytes are not all 00h. With no card
+ * in the slot the image is not looked at. */
 #define CARD_READER_E_IMAGE (-3)
 /* The record has another length than CARD_READER_RECORD, a byte that may only be 0 or 1 is neither, a byte of the rest
- * is not 00h, or what it says cannot be so (a page of no reader, a type that is not the card's, a parameter set that
- * SetParameters would not take, one that is not the default with no card in, and the like). */
+ * is not 00h, or what it says cannot be so (a page of no reader, a type that is not the card's, an open card that has no
+ * code, a parameter set that SetParameters would not take, one that is not the default with no card in, and the like). */
 #define CARD_READER_E_RECORD (-4)
 /* A card is in already. */
 #define CARD_READER_E_OCCUPIED (-5)

@@ -7,24 +7,25 @@ pub struct Kind {
     pub image: usize,
     pub memory: usize,
     pub own_type: u8,
-    pub guard: Option<Guard>,
+    /// How many memory bytes, from 0 on, have a protection bit. The protection bytes follow the memory.
+    pub protectable: usize,
+    pub code: Option<Code>,
 }
 
-/// What a code card has beside its memory.
-pub struct Guard {
+/// The code of a code card and its counter, and where they are in the image.
+pub struct Code {
     pub full: u8,
     pub counter: usize,
-    pub code: usize,
-    pub code_bytes: usize,
-    pub protection: usize,
-    pub protectable: usize,
+    pub place: usize,
+    pub bytes: usize,
 }
 
+/// An I2C card is memory alone.
 const fn i2c(name: &'static str, told: &'static str, number: u8, bytes: usize, own_type: u8) -> Kind {
-    Kind { name, told, number, image: bytes, memory: bytes, own_type, guard: None }
+    Kind { name, told, number, image: bytes, memory: bytes, own_type, protectable: 0, code: None }
 }
 
-static KINDS: [Kind; 11] = [
+static KINDS: [Kind; 13] = [
     i2c("i2c1", "I2C of 1 kbit", 1, 128, 0x01),
     i2c("i2c2", "I2C of 2 kbit", 2, 256, 0x01),
     i2c("i2c4", "I2C of 4 kbit", 3, 512, 0x01),
@@ -41,14 +42,18 @@ static KINDS: [Kind; 11] = [
         image: 1152,
         memory: 1024,
         own_type: 0x05,
-        guard: Some(Guard {
-            full: 0xff,
-            counter: 0x3fd,
-            code: 0x3fe,
-            code_bytes: 2,
-            protection: 1024,
-            protectable: 1024,
-        }),
+        protectable: 1024,
+        code: Some(Code { full: 0xff, counter: 0x3fd, place: 0x3fe, bytes: 2 }),
+    },
+    Kind {
+        name: "sle4418",
+        told: "SLE4418",
+        number: 21,
+        image: 1152,
+        memory: 1024,
+        own_type: 0x05,
+        protectable: 1024,
+        code: None,
     },
     Kind {
         name: "sle4442",
@@ -57,14 +62,27 @@ static KINDS: [Kind; 11] = [
         image: 264,
         memory: 256,
         own_type: 0x06,
-        guard: Some(Guard { full: 0x07, counter: 260, code: 261, code_bytes: 3, protection: 256, protectable: 32 }),
+        protectable: 32,
+        code: Some(Code { full: 0x07, counter: 260, place: 261, bytes: 3 }),
+    },
+    Kind {
+        name: "sle4432",
+        told: "SLE4432",
+        number: 31,
+        image: 264,
+        memory: 256,
+        own_type: 0x06,
+        protectable: 32,
+        code: None,
     },
 ];
 
+/// The card of a name.
 pub fn named(name: &str) -> Option<&'static Kind> {
     KINDS.iter().find(|kind| kind.name == name)
 }
 
+/// The card of a kind's number.
 pub fn numbered(number: u8) -> Option<&'static Kind> {
     KINDS.iter().find(|kind| kind.number == number)
 }

@@ -237,42 +237,36 @@ fn card_image(card: &Kind, mut words: &[&str]) -> Result<Vec<u8>, String> {
             _ => return Err(format!("'{}' is no option of insert", option)),
         }
     }
+    if card.code.is_none() && (counter.is_some() || code.is_some()) {
+        return Err(format!("{} has no code and no counter", card.told));
+    }
     if let Some(image) = whole {
         return Ok(image);
     }
 
+    // Every protection bit is 1, and an SLE4432's last four bytes are 00h.
     let mut image = vec![fill; card.memory];
-    image.resize(card.image, 0xff);
+    image.resize(card.memory + card.protectable / 8, 0xff);
+    image.resize(card.image, 0x00);
     for (place, bytes) in memory {
         if place + bytes.len() > card.memory {
             return Err(format!("memory bytes at {:04X} pass the {} bytes of {}", place, card.memory, card.told));
         }
         image[place..place + bytes.len()].copy_from_slice(&bytes);
     }
-    match &card.guard {
-        Some(guard) => {
-            image[guard.counter] = counter.unwrap_or(guard.full);
-            let code = code.unwrap_or_else(|| vec![0xff; guard.code_bytes]);
-            if code.len() != guard.code_bytes {
-                return Err(format!(
-                    "the code of {} has {} bytes, and these are {}",
-                    card.told,
-                    guard.code_bytes,
-                    code.len()
-                ));
-            }
-            image[guard.code..guard.code + guard.code_bytes].copy_from_slice(&code);
-            for place in protected {
-                if place >= guard.protectable {
-                    return Err(format!("byte {:04X} of {} has no protection bit", place, card.told));
-                }
-                image[guard.protection + place / 8] &= !(1 << (place % 8));
-            }
+    if let Some(own) = &card.code {
+        image[own.counter] = counter.unwrap_or(own.full);
+        let code = code.unwrap_or_else(|| vec![0xff; own.bytes]);
+        if code.len() != own.bytes {
+            return Err(format!("the code of {} has {} bytes, and these are {}", card.told, own.bytes, code.len()));
         }
-        None if counter.is_some() || code.is_some() || !protected.is_empty() => {
-            return Err(format!("{} has no counter, no code and no protection bits", card.told));
+        image[own.place..own.place + own.bytes].copy_from_slice(&code);
+    }
+    for place in protected {
+        if place >= card.protectable {
+            return Err(format!("byte {:04X} of {} has no protection bit", place, card.told));
         }
-        None => {}
+        image[card.memory + place / 8] &= !(1 << (place % 8));
     }
     if short > image.len() {
         return Err(format!("the image has only {} bytes", image.len()));

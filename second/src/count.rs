@@ -1,6 +1,6 @@
 //! Counts what random sessions and cases reached, and holds a run to what it has to reach: every
-//! bError, every status word, every command on every type, every fault of a parameter set, every
-//! refusal.
+//! bError, every status word, every command on every type, or kind with protection bits, every
+//! fault of a parameter set, every refusal.
 
 mod parameters;
 
@@ -9,6 +9,7 @@ use crate::parameters::Parameters;
 use crate::random::{CASE_ENDINGS, ENDINGS, RECORD_FAULTS, SET_FAULTS};
 use crate::reader::{Chip, Slot, CHIPS};
 use std::collections::BTreeMap;
+use std::fmt;
 
 #[derive(Default)]
 pub struct Count(BTreeMap<String, u64>);
@@ -21,12 +22,18 @@ pub struct Before {
     page: u8,
     open: bool,
     counter: u8,
+    /// Bytes 3FDh to 3FFh of kind 21, and whether each is protected.
+    last: [(u8, bool); 3],
     parameters: Parameters,
 }
 
 impl Before {
     pub fn of(slot: &Slot, image: &[u8]) -> Before {
         let counter = Chip::of(slot.kind).and_then(|chip| image.get(chip.counter)).copied();
+        let last = match Chip::of(slot.kind) {
+            Some(chip) if chip.kind == 21 => [0x3fd, 0x3fe, 0x3ff].map(|k| (image[k], chip.protected(image, k))),
+            _ => [(0, false); 3],
+        };
         Before {
             kind: slot.kind,
             active: slot.active,
@@ -34,7 +41,17 @@ impl Before {
             page: slot.page,
             open: slot.open,
             counter: counter.unwrap_or(0),
+            last,
             parameters: slot.parameters.clone(),
+        }
+    }
+
+    /// What a command is sent to.
+    fn on(&self) -> On {
+        match self.selected {
+            0x00 => Nothing,
+            0x05 | 0x06 => Kind(self.kind),
+            selected => Type(selected),
         }
     }
 
@@ -54,24 +71,44 @@ impl Before {
 
 const SUPPORTED: [&str; 7] = ["61h", "62h", "63h", "65h", "6Ch", "6Dh", "6Fh"];
 const INS: [u8; 9] = [0xa4, 0x01, 0xb0, 0xb1, 0xb2, 0xd0, 0xd1, 0x20, 0xd2];
-const TYPES: [u8; 4] = [0x01, 0x02, 0x05, 0x06];
 
-/// Step 5 of the commands: what a type has.
-fn has(selected: u8, ins: u8) -> bool {
-    match selected {
-        0x01 | 0x02 => [0xa4, 0x01, 0xb0, 0xd0].contains(&ins),
-        0x05 => [0xa4, 0xb0, 0xb1, 0xb2, 0xd0, 0xd1, 0x20].contains(&ins),
-        _ => [0xa4, 0xb0, 0xb1, 0xb2, 0xd0, 0xd1, 0x20, 0xd2].contains(&ins),
+/// What a command is sent to: no selected type, an I2C type, or a kind with protection bits. Kinds
+/// 20 and 21 share a type, as 30 and 31 do, and do not have the same commands.
+#[derive(Clone, Copy)]
+enum On {
+    Nothing,
+    Type(u8),
+    Kind(u8),
+}
+use On::{Kind, Nothing, Type};
+
+const ON: [On; 7] = [Nothing, Type(0x01), Type(0x02), Kind(20), Kind(21), Kind(30), Kind(31)];
+
+impl fmt::Display for On {
+    fn fmt(&self, text: &mut fmt::Formatter) -> fmt::Result {
+        match self {
+            Nothing => write!(text, "no type"),
+            Type(selected) => write!(text, "type {:02X}h", selected),
+            Kind(kind) => write!(text, "kind {}", kind),
+        }
     }
 }
 
-fn on(selected: u8) -> String {
-    if selected == 0 {
-        "no type".to_string()
-    } else {
-        format!("type {:02X}h", selected)
+/// Steps 4 and 5 of the commands: what a type or a kind has.
+fn has(on: On, ins: u8) -> bool {
+    match on {
+        Nothing => ins == 0xa4,
+        Type(_) => [0xa4, 0x01, 0xb0, 0xd0].contains(&ins),
+        Kind(20) => [0xa4, 0xb0, 0xb1, 0xb2, 0xd0, 0xd1, 0x20].contains(&ins),
+        Kind(30) => [0xa4, 0xb0, 0xb1, 0xb2, 0xd0, 0xd1, 0x20, 0xd2].contains(&ins),
+        Kind(_) => [0xa4, 0xb0, 0xb2, 0xd0, 0xd1].contains(&ins),
     }
 }
+
+/// The commands that need a code, on the kinds that have none: P3 and n as they are right on a code
+/// card.
+const LACKED: [(u8, u8, u8, usize); 6] =
+    [(21, 0xb1, 3, 5), (21, 0x20, 2, 7), (21, 0xd2, 3, 8), (31, 0xb1, 4, 5), (31, 0x20, 3, 8), (31, 0xd2, 3, 8)];
 
 impl Count {
     pub fn add(&mut self, what: String) {
@@ -101,6 +138,9 @@ impl Count {
         let (kind, status, error) = (message[0], answer[7], answer[8]);
         let came = message.len() - 10;
         self.add(format!("bStatus {:02X}h", status));
+        if before.last[0].1 {
+            self.add("kind 21, bit for 3FDh is 0: answered".to_string());
+        }
         if status & 0x40 != 0 {
             let said = u32::from_le_bytes([message[1], message[2], message[3], message[4]]) as usize;
             let why = match error {
@@ -137,12 +177,12 @@ impl Count {
         if came == 261 {
             self.add("261 data bytes reach the commands".to_string());
         }
-        let word = u16::from_be_bytes([answer[answer.len() - 2], answer[answer.len() - 1]]);
-        self.command(before, &message[10..], word);
+        self.command(before, &message[10..], &answer[10..]);
     }
 
-    fn command(&mut self, before: &Before, apdu: &[u8], word: u16) {
-        let on = on(before.selected);
+    fn command(&mut self, before: &Before, apdu: &[u8], told: &[u8]) {
+        let on = before.on();
+        let word = u16::from_be_bytes([told[told.len() - 2], told[told.len() - 1]]);
         if apdu.len() < 5 {
             self.add(format!("n = {}: {:04X}", apdu.len(), word));
             return self.add(format!("{}: n below 5: {:04X}", on, word));
@@ -164,7 +204,7 @@ impl Count {
             }
             (0x20, _) if word >> 8 == 0x90 => {
                 self.add(format!("{}: 20 wrong, {} tries left", on, (word & 0xff).count_ones()));
-                if before.selected == 0x06 {
+                if before.kind == 30 {
                     self.add(format!("{}: 20 wrong: {:04X}", on, word));
                 }
                 if before.open {
@@ -172,20 +212,55 @@ impl Count {
                 }
             }
             (0xd0..=0xd2, 0x6982) => {
-                self.add(format!("{}: {:02X}: 6982 {}", on, ins, if before.open { "protected" } else { "closed" }));
+                let why = if matches!(on, Kind(20 | 30)) && !before.open { "closed" } else { "protected" };
+                self.add(format!("{}: {:02X}: 6982 {}", on, ins, why));
             }
             _ => self.add(format!("{}: {:02X}: {:04X}", on, ins, word)),
         }
         let covers = |k: usize| (place..place + p3).contains(&k);
-        match (before.selected, ins, word) {
-            (0x05, 0xd0, 0x6b00) if covers(0x3fd) && place + p3 <= 1024 => self.add("D0 over 3FDh: 6B00".to_string()),
-            (0x05, 0xd0, 0x9000) if covers(0x3fe) || covers(0x3ff) => self.add("D0 over the code: 9000".to_string()),
-            (0x05, 0xb0, 0x9000) if covers(0x3fe) || covers(0x3ff) => {
+        match (on, ins, word) {
+            (Kind(20), 0xd0, 0x6b00) if covers(0x3fd) && place + p3 <= 1024 => {
+                self.add("D0 over 3FDh: 6B00".to_string())
+            }
+            (Kind(20), 0xd0, 0x9000) if covers(0x3fe) || covers(0x3ff) => {
+                self.add("D0 over the code: 9000".to_string())
+            }
+            (Kind(20), 0xb0, 0x9000) if covers(0x3fe) || covers(0x3ff) => {
                 self.add(format!("B0 of the code, {}", if before.open { "open" } else { "closed" }));
             }
-            (0x01 | 0x02, 0xd0, 0x9000) => self.add(format!("D0 on kind {}, reader page {}", before.kind, before.page)),
-            (0x01 | 0x02, 0x01, 0x9000) => self.add(format!("{}: page code {:02X}h", on, apdu[5])),
+            (Kind(21 | 31), 0xb1 | 0x20 | 0xd2, 0x6d00) => {
+                let right = LACKED.contains(&(before.kind, ins, apdu[4], apdu.len()));
+                self.add(format!("{}: {:02X} of a {} length: 6D00", on, ins, if right { "right" } else { "wrong" }));
+            }
+            (Kind(21), ..) => self.last_bytes(before, apdu, told, word),
+            (Type(_), 0xd0, 0x9000) => self.add(format!("D0 on kind {}, reader page {}", before.kind, before.page)),
+            (Type(_), 0x01, 0x9000) => self.add(format!("{}: page code {:02X}h", on, apdu[5])),
             _ => {}
+        }
+    }
+
+    /// A command on kind 21: what it does to bytes 3FDh to 3FFh, each on its own.
+    fn last_bytes(&mut self, before: &Before, apdu: &[u8], told: &[u8], word: u16) {
+        let (ins, place, p3) = (apdu[1], usize::from(apdu[2]) * 256 + usize::from(apdu[3]), usize::from(apdu[4]));
+        let count = if ins == 0xb2 { 8 * p3 } else { p3 };
+        for (address, (byte, protected)) in (0x3fd..).zip(before.last) {
+            if !(place..place + count).contains(&address) {
+                continue;
+            }
+            let k = address - place;
+            let what = match (ins, word, protected) {
+                (0xb0, 0x9000, _) if told[k] != 0x00 => "in clear",
+                (0xb2, 0x9000, true) => "protected",
+                (0xd0, 0x9000, _) => "stored",
+                // The first byte of the range that is protected ends the search.
+                (0xd0, 0x6982, true) if place >= 0x3fd => {
+                    return self.add(format!("kind 21: D0 of {:03X}h, protected: 6982", address));
+                }
+                (0xd1, 0x9000, false) if apdu[5 + k] == byte => "now protected",
+                (0xd1, 0x9000, false) => "passed over",
+                _ => continue,
+            };
+            self.add(format!("kind 21: {:02X} of {:03X}h, {}: 9000", ins, address, what));
         }
     }
 
@@ -264,8 +339,8 @@ fn answers() -> Vec<String> {
         goal(format!("62h, {}: success", state));
     }
     for chip in &CHIPS {
-        goal(format!("62h, kind {}: {}", chip.kind, if chip.has_code() { "3B 04 and memory" } else { "3B 00" }));
-        if !chip.has_code() {
+        goal(format!("62h, kind {}: {}", chip.kind, if chip.has_bits() { "3B 04 and memory" } else { "3B 00" }));
+        if !chip.has_bits() {
             for page in [8, 16, 32, 64, 128] {
                 goal(format!("D0 on kind {}, reader page {}", chip.kind, page));
             }
@@ -275,17 +350,14 @@ fn answers() -> Vec<String> {
     for n in 0..5 {
         goal(format!("n = {}: 6700", n));
     }
-    for selected in [0x00, 0x01, 0x02, 0x05, 0x06] {
-        let on = on(selected);
+    for on in ON {
         goal(format!("{}: n below 5: 6700", on));
         goal(format!("{}: first byte not FFh: 6E00", on));
         goal(format!("{}: INS none: 6D00", on));
         goal(format!("{}: A4: 6A80", on));
         for ins in INS {
-            if selected == 0 && ins != 0xa4 {
-                goal(format!("{}: {:02X}: 6985", on, ins));
-            } else if selected != 0 && !has(selected, ins) {
-                goal(format!("{}: {:02X}: 6D00", on, ins));
+            if !has(on, ins) {
+                goal(format!("{}: {:02X}: {}", on, ins, if matches!(on, Nothing) { "6985" } else { "6D00" }));
             } else {
                 goal(format!("{}: {:02X}: 6700", on, ins));
                 goal(format!("{}: {:02X}: 6B00", on, ins));
@@ -295,19 +367,19 @@ fn answers() -> Vec<String> {
             }
         }
     }
-    for selected in TYPES {
-        let on = on(selected);
-        if selected < 0x05 {
-            goal(format!("{}: 01: 6A80", on));
-            for code in 0x03..=0x07 {
-                goal(format!("{}: page code {:02X}h", on, code));
-            }
+    for on in [Type(0x01), Type(0x02)] {
+        goal(format!("{}: 01: 6A80", on));
+        for code in 0x03..=0x07 {
+            goal(format!("{}: page code {:02X}h", on, code));
+        }
+    }
+    for (on, tries) in [(Kind(20), 8), (Kind(21), 0), (Kind(30), 3), (Kind(31), 0)] {
+        goal(format!("{}: D0: 6982 protected", on));
+        if tries == 0 {
             continue;
         }
         goal(format!("{}: D0: 6982 closed", on));
-        goal(format!("{}: D0: 6982 protected", on));
         goal(format!("{}: D1: 6982 closed", on));
-        let tries = if selected == 0x05 { 8 } else { 3 };
         for left in 0..tries {
             goal(format!("{}: 20 wrong, {} tries left", on, left));
             goal(format!("{}: 20 right with {} tries", on, left + 1));
@@ -316,10 +388,24 @@ fn answers() -> Vec<String> {
         goal(format!("{}: 20 without tries: 9000", on));
     }
     for word in ["9000", "9002", "9004", "9006"] {
-        goal(format!("type 06h: 20 wrong: {}", word));
+        goal(format!("kind 30: 20 wrong: {}", word));
+    }
+    for (kind, ins, ..) in LACKED {
+        goal(format!("kind {}: {:02X} of a right length: 6D00", kind, ins));
+        goal(format!("kind {}: {:02X} of a wrong length: 6D00", kind, ins));
+    }
+    for address in 0x3fd..=0x3ff {
+        let mut goal = |ins: u8, what: &str| goal(format!("kind 21: {:02X} of {:03X}h, {}", ins, address, what));
+        goal(0xb0, "in clear: 9000");
+        goal(0xb2, "protected: 9000");
+        goal(0xd0, "stored: 9000");
+        goal(0xd0, "protected: 6982");
+        goal(0xd1, "now protected: 9000");
+        goal(0xd1, "passed over: 9000");
     }
     for what in [
-        "type 06h: D2: 6982 closed",
+        "kind 21, bit for 3FDh is 0: answered",
+        "kind 30: D2: 6982 closed",
         "D0 over 3FDh: 6B00",
         "D0 over the code: 9000",
         "B0 of the code, open",
@@ -331,8 +417,17 @@ fn answers() -> Vec<String> {
     goals
 }
 
-const CARD_FAULTS: [&str; 5] =
-    ["kind unknown", "image short", "image long", "4442 counter above 07h", "4428 bit for 3FDh is 0"];
+const CARD_FAULTS: [&str; 9] = [
+    "kind unknown",
+    "image short",
+    "image long",
+    "4442 counter above 07h",
+    "4428 bit for 3FDh is 0",
+    "4432 byte 260 not 00h",
+    "4432 byte 261 not 00h",
+    "4432 byte 262 not 00h",
+    "4432 byte 263 not 00h",
+];
 
 /// What a run of sessions has to reach. Refusal 1 cannot occur, since the program lends 271 bytes,
 /// and 4 cannot, since no message and no insertion makes the slot record unsound.
@@ -341,6 +436,7 @@ pub fn session_goals() -> Vec<String> {
     for chip in &CHIPS {
         goals.push(format!("in 0: kind {}", chip.kind));
     }
+    goals.push("in 0: kind 21, bit for 3FDh is 0".to_string());
     for why in CARD_FAULTS {
         goals.push(format!("in 3: {}", why));
     }
@@ -396,4 +492,64 @@ pub fn trial_goals() -> Vec<String> {
     goals.push("no card, and an image that is not looked at".to_string());
     goals.extend(CASE_ENDINGS.iter().map(|how| how.to_string()));
     goals
+}
+
+#[cfg(test)]
+mod tests {
+    use super::*;
+    use crate::reader::{self, ANSWER_BUFFER};
+    use std::collections::BTreeSet;
+
+    /// So that the number of things to reach is right.
+    #[test]
+    fn no_goal_stands_twice() {
+        for goals in [session_goals(), trial_goals()] {
+            let once: BTreeSet<&String> = goals.iter().collect();
+            assert_eq!(once.len(), goals.len());
+        }
+    }
+
+    /// What is counted of these data of a 6Fh, beside the status word of the command. Bytes 3FDh to
+    /// 3FFh of the kind 21 are 00 C2 C3, and 3FEh alone is protected.
+    fn counted(apdu: &[u8]) -> Vec<String> {
+        let mut slot = Slot { kind: 21, active: true, selected: 0x05, ..Slot::empty() };
+        let mut image = [&[0x55; 0x3fd][..], &[0x00, 0xc2, 0xc3], &[0xff; 127], &[0xbf]].concat();
+        let before = Before::of(&slot, &image);
+        let message = [&[0x6f, apdu.len() as u8, 0, 0, 0, 0, 0, 0, 0, 0], apdu].concat();
+        let mut answer = [0; ANSWER_BUFFER];
+        let length = reader::message(&mut slot, &mut image, &message, &mut answer).unwrap();
+        let mut count = Count::default();
+        count.answer(&before, &message, &crate::step::hex(&answer[..length]));
+        count.0.into_keys().filter_map(|what| Some(what.strip_prefix("kind 21: ")?.to_string())).collect()
+    }
+
+    #[test]
+    fn the_last_bytes_of_kind_21() {
+        assert_eq!(
+            counted(&[0xff, 0xb0, 0x03, 0xfc, 4]),
+            ["B0 of 3FEh, in clear: 9000", "B0 of 3FFh, in clear: 9000", "B0: 9000"]
+        );
+        assert_eq!(counted(&[0xff, 0xb2, 0x03, 0xf8, 1]), ["B2 of 3FEh, protected: 9000", "B2: 9000"]);
+        assert_eq!(counted(&[0xff, 0xb2, 0x03, 0xf6, 1]), ["B2: 9000"]);
+        assert_eq!(counted(&[0xff, 0xd0, 0x03, 0xfd, 1, 7]), ["D0 of 3FDh, stored: 9000", "D0: 9000"]);
+        assert_eq!(counted(&[0xff, 0xd0, 0x03, 0xfc, 1, 7]), ["D0: 9000"]);
+        assert_eq!(
+            counted(&[0xff, 0xd0, 0x03, 0xfd, 3, 7, 7, 7]),
+            ["D0 of 3FEh, protected: 6982", "D0: 6982 protected"]
+        );
+        assert_eq!(
+            counted(&[0xff, 0xd1, 0x03, 0xfd, 3, 0x00, 0xc2, 0x00]),
+            ["D1 of 3FDh, now protected: 9000", "D1 of 3FFh, passed over: 9000", "D1: 9000"]
+        );
+    }
+
+    #[test]
+    fn commands_that_need_a_code_on_kind_21() {
+        assert_eq!(counted(&[0xff, 0xb1, 0, 0, 3]), ["B1 of a right length: 6D00", "B1: 6D00"]);
+        assert_eq!(counted(&[0xff, 0xb1, 0, 0, 4]), ["B1 of a wrong length: 6D00", "B1: 6D00"]);
+        assert_eq!(counted(&[0xff, 0x20, 0, 0, 2, 0xc2, 0xc3]), ["20 of a right length: 6D00", "20: 6D00"]);
+        assert_eq!(counted(&[0xff, 0x20, 0, 0, 2, 0xc2]), ["20 of a wrong length: 6D00", "20: 6D00"]);
+        assert_eq!(counted(&[0xff, 0xd2, 0, 1, 3, 1, 2, 3]), ["D2 of a right length: 6D00", "D2: 6D00"]);
+        assert_eq!(counted(&[0xff, 0xd2, 0, 1, 2, 1, 2]), ["D2 of a wrong length: 6D00", "D2: 6D00"]);
+    }
 }

@@ -86,10 +86,11 @@ struct Maker {
     last: Vec<u8>,
 }
 
-/// How often a kind is taken: the code cards most, the largest images least.
+/// How often a kind is taken: those with protection bits most, the largest images least.
 #[rustfmt::skip]
-const KINDS: [(usize, u8); 11] =
-    [(30, 30), (26, 20), (6, 1), (6, 2), (6, 3), (6, 4), (6, 5), (6, 6), (6, 7), (3, 8), (2, 9)];
+const KINDS: [(usize, u8); 13] = [
+    (40, 30), (32, 20), (26, 31), (26, 21), (6, 1), (6, 2), (6, 3), (6, 4), (6, 5), (6, 6), (6, 7), (4, 8), (3, 9),
+];
 
 impl Maker {
     fn new(rng: Rng) -> Maker {
@@ -102,6 +103,11 @@ impl Maker {
     }
 
     fn any_chip(&mut self) -> &'static Chip {
-        Chip::of(self.rng.weighed(&KINDS)).unwrap_or(&CHIPS[0])
+        chip_of(self.rng.weighed(&KINDS))
     }
+}
+
+/// The chip of a kind that there is.
+fn chip_of(kind: u8) -> &'static Chip {
+    Chip::of(kind).unwrap_or(&CHIPS[0])
 }

@@ -42,19 +42,22 @@ pub struct Chip {
     /// Where the protection bytes begin, and how many memory bytes have a bit in them.
     pub protection: usize,
     pub protectable: usize,
+    /// The image bytes that are 00h on every card.
+    pub zeros: Range<usize>,
 }
+
+const NOWHERE: usize = usize::MAX;
 
 #[rustfmt::skip]
 const fn i2c(kind: u8, name: &'static str, bytes: usize, page: usize, select: u8) -> Chip {
-    let nowhere = usize::MAX;
     Chip {
         kind, name, image: bytes, memory: bytes, page, select,
-        full: 0, counter: nowhere, code: nowhere..nowhere, protection: nowhere, protectable: 0,
+        full: 0, counter: NOWHERE, code: NOWHERE..NOWHERE, protection: NOWHERE, protectable: 0, zeros: 0..0,
     }
 }
 
 #[rustfmt::skip]
-pub static CHIPS: [Chip; 11] = [
+pub static CHIPS: [Chip; 13] = [
     i2c(1, "I2C 1 kbit", 128, 8, 0x01),
     i2c(2, "I2C 2 kbit", 256, 8, 0x01),
     i2c(3, "I2C 4 kbit", 512, 16, 0x01),
@@ -66,11 +69,19 @@ pub static CHIPS: [Chip; 11] = [
     i2c(9, "I2C 256 kbit", 32768, 64, 0x02),
     Chip {
         kind: 20, name: "SLE4428", image: 1152, memory: 1024, page: 0, select: 0x05,
-        full: 0xff, counter: 0x3fd, code: 0x3fe..0x400, protection: 1024, protectable: 1024,
+        full: 0xff, counter: 0x3fd, code: 0x3fe..0x400, protection: 1024, protectable: 1024, zeros: 0..0,
+    },
+    Chip {
+        kind: 21, name: "SLE4418", image: 1152, memory: 1024, page: 0, select: 0x05,
+        full: 0, counter: NOWHERE, code: NOWHERE..NOWHERE, protection: 1024, protectable: 1024, zeros: 0..0,
     },
     Chip {
         kind: 30, name: "SLE4442", image: 264, memory: 256, page: 0, select: 0x06,
-        full: 0x07, counter: 260, code: 261..264, protection: 256, protectable: 32,
+        full: 0x07, counter: 260, code: 261..264, protection: 256, protectable: 32, zeros: 0..0,
+    },
+    Chip {
+        kind: 31, name: "SLE4432", image: 264, memory: 256, page: 0, select: 0x06,
+        full: 0, counter: NOWHERE, code: NOWHERE..NOWHERE, protection: 256, protectable: 32, zeros: 260..264,
     },
 ];
 
@@ -80,8 +91,14 @@ impl Chip {
         CHIPS.iter().find(|chip| chip.kind == kind)
     }
 
+    /// A code card: kinds 20 and 30.
     pub fn has_code(&self) -> bool {
         self.full != 0
+    }
+
+    /// A card with protection bits: kinds 20, 21, 30 and 31.
+    pub fn has_bits(&self) -> bool {
+        self.protectable != 0
     }
 
     /// Whether byte k of the memory is protected: its bit is bit k mod 8 of protection byte k/8.
@@ -89,11 +106,12 @@ impl Chip {
         k < self.protectable && image[self.protection + k / 8] & (1 << (k % 8)) == 0
     }
 
-    /// Whether the image is one of this chip: its length; then a 4442's counter is at most 07h, and
-    /// a 4428's bit for 3FDh is 1.
+    /// Whether the image is one of this chip: its length; then a 4442's counter is at most 07h, a
+    /// 4428's bit for 3FDh is 1, and a 4432's last four bytes are 00h.
     fn fits(&self, image: &[u8]) -> bool {
         image.len() == self.image
             && (!self.has_code() || image[self.counter] <= self.full && !self.protected(image, self.counter))
+            && image[self.zeros.clone()].iter().all(|&byte| byte == 0x00)
     }
 }
 
@@ -285,39 +303,39 @@ struct Given<'a> {
     data: &'a [u8],
 }
 
-/// A command on the types that have it: what P3 may be, whether P3 bytes follow it, and its place.
+/// A command on the kinds that have it: what P3 may be, whether P3 bytes follow it, and its place.
+/// A selected type is the kind's own, so the kind tells the type.
 struct Command {
     ins: u8,
-    types: &'static [u8],
+    kinds: &'static [u8],
     p3: RangeInclusive<usize>,
     brings: bool,
     place: Place,
     run: fn(&mut Card, &Given, &mut Data) -> u16,
 }
 
-const I2C: &[u8] = &[0x01, 0x02];
-const SLE4428: &[u8] = &[0x05];
-const SLE4442: &[u8] = &[0x06];
-const CODE: &[u8] = &[0x05, 0x06];
-const ALL: &[u8] = &[0x01, 0x02, 0x05, 0x06];
+const I2C: &[u8] = &[1, 2, 3, 4, 5, 6, 7, 8, 9];
+const BITS: &[u8] = &[20, 21, 30, 31];
+const ALL: &[u8] = &[1, 2, 3, 4, 5, 6, 7, 8, 9, 20, 21, 30, 31];
 const MEMORY: usize = usize::MAX;
 
 #[rustfmt::skip]
-static COMMANDS: [Command; 14] = [
-    Command { ins: 0xa4, types: ALL,     p3: 1..=1,   brings: true,  place: Fixed(0),       run: select },
-    Command { ins: 0x01, types: I2C,     p3: 1..=1,   brings: true,  place: Fixed(0),       run: set_page },
-    Command { ins: 0xb0, types: ALL,     p3: 1..=255, brings: false, place: Upto(MEMORY),   run: read },
-    Command { ins: 0xb1, types: SLE4428, p3: 3..=3,   brings: false, place: Fixed(0),       run: read_counter },
-    Command { ins: 0xb1, types: SLE4442, p3: 4..=4,   brings: false, place: Fixed(0),       run: read_counter },
-    Command { ins: 0xb2, types: SLE4428, p3: 1..=32,  brings: false, place: BitsUpto(1024), run: read_protection },
-    Command { ins: 0xb2, types: SLE4442, p3: 4..=4,   brings: false, place: Fixed(0),       run: read_protection },
-    Command { ins: 0xd0, types: I2C,     p3: 1..=255, brings: true,  place: Upto(MEMORY),   run: write_pages },
-    Command { ins: 0xd0, types: CODE,    p3: 1..=255, brings: true,  place: Upto(MEMORY),   run: write },
-    Command { ins: 0xd1, types: SLE4428, p3: 1..=255, brings: true,  place: Upto(0x3fd),    run: protect },
-    Command { ins: 0xd1, types: SLE4442, p3: 1..=255, brings: true,  place: Upto(32),       run: protect },
-    Command { ins: 0x20, types: SLE4428, p3: 2..=2,   brings: true,  place: Fixed(0),       run: present },
-    Command { ins: 0x20, types: SLE4442, p3: 3..=3,   brings: true,  place: Fixed(0),       run: present },
-    Command { ins: 0xd2, types: SLE4442, p3: 3..=3,   brings: true,  place: Fixed(1),       run: change_code },
+static COMMANDS: [Command; 15] = [
+    Command { ins: 0xa4, kinds: ALL,       p3: 1..=1,   brings: true,  place: Fixed(0),       run: select },
+    Command { ins: 0x01, kinds: I2C,       p3: 1..=1,   brings: true,  place: Fixed(0),       run: set_page },
+    Command { ins: 0xb0, kinds: ALL,       p3: 1..=255, brings: false, place: Upto(MEMORY),   run: read },
+    Command { ins: 0xb1, kinds: &[20],     p3: 3..=3,   brings: false, place: Fixed(0),       run: read_counter },
+    Command { ins: 0xb1, kinds: &[30],     p3: 4..=4,   brings: false, place: Fixed(0),       run: read_counter },
+    Command { ins: 0xb2, kinds: &[20, 21], p3: 1..=32,  brings: false, place: BitsUpto(1024), run: read_protection },
+    Command { ins: 0xb2, kinds: &[30, 31], p3: 4..=4,   brings: false, place: Fixed(0),       run: read_protection },
+    Command { ins: 0xd0, kinds: I2C,       p3: 1..=255, brings: true,  place: Upto(MEMORY),   run: write_pages },
+    Command { ins: 0xd0, kinds: BITS,      p3: 1..=255, brings: true,  place: Upto(MEMORY),   run: write },
+    Command { ins: 0xd1, kinds: &[20],     p3: 1..=255, brings: true,  place: Upto(0x3fd),    run: protect },
+    Command { ins: 0xd1, kinds: &[21],     p3: 1..=255, brings: true,  place: Upto(MEMORY),   run: protect },
+    Command { ins: 0xd1, kinds: &[30, 31], p3: 1..=255, brings: true,  place: Upto(32),       run: protect },
+    Command { ins: 0x20, kinds: &[20],     p3: 2..=2,   brings: true,  place: Fixed(0),       run: present },
+    Command { ins: 0x20, kinds: &[30],     p3: 3..=3,   brings: true,  place: Fixed(0),       run: present },
+    Command { ins: 0xd2, kinds: &[30],     p3: 3..=3,   brings: true,  place: Fixed(1),       run: change_code },
 ];
 
 const WRONG_LENGTH: u16 = 0x6700;
@@ -353,7 +371,7 @@ impl Card<'_> {
     fn power_on(&mut self, data: &mut Data) {
         self.power(true);
         self.slot.parameters = Parameters::default();
-        if self.chip.has_code() {
+        if self.chip.has_bits() {
             data.put(&[0x3b, 0x04]);
             data.put(&self.image[..4]);
         } else {
@@ -373,12 +391,11 @@ impl Card<'_> {
         if !COMMANDS.iter().any(|command| command.ins == ins) {
             return WRONG_INS;
         }
-        // A4 is the one command that needs no selected type; it is the same for all.
-        let selected = if ins == 0xa4 { self.chip.select } else { self.slot.selected };
-        if selected == 0 {
+        // A4 is the one command that needs no selected type.
+        if ins != 0xa4 && self.slot.selected == 0 {
             return NOTHING_SELECTED;
         }
-        let command = match COMMANDS.iter().find(|row| row.ins == ins && row.types.contains(&selected)) {
+        let command = match COMMANDS.iter().find(|row| row.ins == ins && row.kinds.contains(&self.chip.kind)) {
             Some(command) => command,
             None => return WRONG_INS,
         };
@@ -394,7 +411,7 @@ impl Card<'_> {
             Upto(end) => place + p3 <= end.min(self.chip.memory),
             BitsUpto(end) => place + 8 * p3 <= end,
         };
-        // D0 must not cover 3FDh; the other chips have no counter in their memory.
+        // D0 must not cover a 4428's 3FDh; the other chips have no counter in their memory.
         if !placed || ins == 0xd0 && (place..place + p3).contains(&self.chip.counter) {
             return WRONG_PLACE;
         }
@@ -471,7 +488,7 @@ fn write_pages(card: &mut Card, given: &Given, _: &mut Data) -> u16 {
     DONE
 }
 
-/// D0 on a code card.
+/// D0 on a card with protection bits.
 fn write(card: &mut Card, given: &Given, _: &mut Data) -> u16 {
     let range = given.place..given.place + given.p3;
     if range.clone().any(|address| card.chip.protected(card.image, address)) {

@@ -84,8 +84,9 @@ static const char *const subjects[SUBJECTS] = {
 
 /* ---- the cards */
 
-enum { NONE, I2C, CODE_28, CODE_42 };
-enum { KINDS = 12, LARGEST = 32768 };
+/* From BITS_18 on they have protection bits, from CODE_28 on a code too. */
+enum { NONE, I2C, BITS_18, BITS_32, CODE_28, CODE_42 };
+enum { KINDS = 14, LARGEST = 32768 };
 
 static const struct kind {
     const char *name;
@@ -104,12 +105,14 @@ static const struct kind {
     { "I2C 128 kbit", CARD_READER_I2C_128K, 2, 16384, 16384, I2C },
     { "I2C 256 kbit", CARD_READER_I2C_256K, 2, 32768, 32768, I2C },
     { "SLE4428", CARD_READER_SLE4428, 5, 1152, 1024, CODE_28 },
+    { "SLE4418", CARD_READER_SLE4418, 5, 1152, 1024, BITS_18 },
     { "SLE4442", CARD_READER_SLE4442, 6, 264, 256, CODE_42 },
+    { "SLE4432", CARD_READER_SLE4432, 6, 264, 256, BITS_32 },
     { "an unknown kind", 0, 0, 128, 128, NONE },
 };
 
 /* The commands of a card; its counter's place, a full one, how long its code is, how many protection bytes it has, and a
- * place with a value that no card has there. */
+ * place with a value that no card has there, 0 where every image of the length is a card. */
 static const struct {
     unsigned has;
     size_t counter;
@@ -119,6 +122,8 @@ static const struct {
 } families[] = {
     { 0, 0, 0, 0, 0, 0, 0 },
     { OF(A4) | OF(C01) | OF(B0) | OF(D0), 0, 0, 0, 0, 0, 0 },
+    { OF(A4) | OF(B0) | OF(B2) | OF(D0) | OF(D1), 0, 0, 0, 128, 0, 0 },
+    { OF(A4) | OF(B0) | OF(B2) | OF(D0) | OF(D1), 0, 0, 0, 4, 263, 0x01 },
     { COMMANDS & ~(OF(C01) | OF(D2)), 0x3fd, 0xff, 2, 128, 1024 + 0x3fd / 8, 0xdf },
     { COMMANDS & ~OF(C01), 260, 0x07, 3, 4, 260, 0x08 },
 };
@@ -127,15 +132,18 @@ static uint8_t record[CARD_READER_RECORD + 1], image[LARGEST + 1], answer[CARD_R
 
 static uint8_t memory_byte(size_t at) { return (uint8_t)(at * 7 + 1); }
 
-/* The image of a card, its code 11 22 33, with this counter and these protection bytes, but that 3FDh is never protected. */
+/* The image of a card, its code 11 22 33, with this counter and these protection bytes, but that an SLE4428's 3FDh is never
+ * protected. Behind the protection bytes of a card without a code all is 00h. */
 static void make_card(uint8_t *to, const struct kind *kind, uint8_t counter, uint8_t protection)
 {
     size_t i;
     for (i = 0; i < kind->image; i++)
-        to[i] = memory_byte(i);
-    if (kind->family < CODE_28)
+        to[i] = i < kind->memory ? memory_byte(i) : 0;
+    if (kind->family < BITS_18)
         return;
     memset(to + kind->memory, protection, families[kind->family].protection);
+    if (kind->family < CODE_28)
+        return;
     to[families[kind->family].counter] = counter;
     memcpy(to + families[kind->family].counter + 1, "\x11\x22\x33", families[kind->family].code);
     if (kind->family == CODE_28)
@@ -148,8 +156,9 @@ static void make_card(uint8_t *to, const struct kind *kind, uint8_t counter, uin
  * command's 90 with tries left; or one of these. */
 enum { DONE = 0, OPEN = 0x10000, TRIES = 0x90ff, FAILED = 0x20000, REFUSED = 0x30000, NO_RESULT = 0x40000 };
 
-enum { IS_NONE = 1 << NONE, IS_I2C = 1 << I2C, IS_28 = 1 << CODE_28, IS_42 = 1 << CODE_42 };
-enum { IS_CODE = IS_28 | IS_42, IS_CARD = IS_I2C | IS_CODE, ANY = IS_NONE | IS_CARD };
+enum { IS_NONE = 1 << NONE, IS_I2C = 1 << I2C, IS_42 = 1 << CODE_42 };
+enum { IS_BITS = 1 << BITS_18 | 1 << BITS_32, IS_CODE = 1 << CODE_28 | IS_42 };
+enum { IS_CARD = IS_I2C | IS_BITS | IS_CODE, ANY = IS_NONE | IS_CARD };
 /* For a rule about all commands that the card has, or lacks. */
 enum { ITS_OWN = 1 << 30, NOT_ITS = 1 << 29 };
 
@@ -191,6 +200,7 @@ static const struct { unsigned cards, subjects, outcome; } rules[] = {
     { IS_CODE, OF(D0) | OF(D1), 0x6982 },
     { IS_42, OF(D2), 0x6982 },
     { IS_CODE, OF(D0), OPEN | 0x6982 },
+    { IS_BITS, OF(D0), 0x6982 },
     { IS_CARD, ITS_OWN, 0x9000 },
     { IS_CODE, OF(C20), TRIES },
 };
@@ -460,7 +470,7 @@ static void send_values(void)
 /* What is turned down: the length of each slice, an image that is no card, a record with another byte in each place. */
 static void send_refused(void)
 {
-    static const uint8_t values[] = { 0, 1, 2, 5, 6, 8, 16, 20, 30, 128, 255 };
+    static const uint8_t values[] = { 0, 1, 2, 5, 6, 8, 16, 20, 21, 30, 31, 128, 255 };
     size_t i, j, size = kinds[kind_in].image, family = kinds[kind_in].family;
     begin(0x65, 0);
     for (i = 0; i < sizeof answer; i += 45)
@@ -482,7 +492,7 @@ static void send_refused(void)
     call(CARD_READER_RECORD, 0, 10, sizeof answer);
     call(CARD_READER_RECORD, size - 1, 10, sizeof answer);
     call(CARD_READER_RECORD, size + 1, 10, sizeof answer);
-    if (family >= CODE_28) {
+    if (families[family].spoil) {
         image[families[family].spoilt] = families[family].spoil;
         send(10);
         image[families[family].spoilt] = kept_image[families[family].spoilt];
@@ -507,8 +517,9 @@ static void send_all(int active, int selected, uint8_t page, int open, const uin
     send_values();
 }
 
-/* The states of the slot with the card that is kept: inactive, no type, selected with each page, open. */
-static void on_each_state(int may_open)
+/* The states of the slot with the card that is kept: inactive, no type, selected with each page, open. Of a card without a
+ * code that is no state, and every message is turned down: were one answered, a protected byte would tell. */
+static void on_each_state(int open_too)
 {
     unsigned page;
     send_all(0, 0, 8, 0, t0_set);
@@ -517,7 +528,7 @@ static void on_each_state(int may_open)
     send_all(1, 0, 8, 0, t1_set);
     for (page = 8; page <= 128; page *= kinds[kind_in].family == I2C ? 2 : 16)
         send_all(1, 1, (uint8_t)page, 0, page == 128 ? t1_set : t0_set);
-    if (may_open)
+    if (open_too)
         send_all(1, 1, 8, 1, t0_set);
 }
 
@@ -527,9 +538,9 @@ static void every_message(void)
     size_t i;
     for (kind_in = 0; kind_in < KINDS; kind_in++) {
         const struct kind *kind = &kinds[kind_in];
-        for (i = 0; i < (kind->family < CODE_28 ? 1 : sizeof protections); i++) {
+        for (i = 0; i < (kind->family < BITS_18 ? 1 : sizeof protections); i++) {
             make_card(kept_image, kind, families[kind->family].full, protections[i]);
-            on_each_state(kind->family >= CODE_28);
+            on_each_state(kind->family >= BITS_18);
             /* Two tries, one, none. */
             if (kind->family >= CODE_28) {
                 make_card(kept_image, kind, (uint8_t)(3 >> i & 3), protections[i]);
@@ -576,7 +587,7 @@ static void every_insertion(void)
         insert(0, (uint8_t)number, row, CARD_READER_RECORD - 1, size);
         insert(0, (uint8_t)number, row, CARD_READER_RECORD + 1, size);
         insert(0, (uint8_t)number, row, 0, 0);
-        if (family >= CODE_28) {
+        if (families[family].spoil) {
             image[families[family].spoilt] = families[family].spoil;
             insert(0, (uint8_t)number, row, CARD_READER_RECORD, size);
         }

@@ -1,5 +1,5 @@
 -- Laws of the bits that stay: clearing a bit leaves every other bit of its byte, so protecting a byte leaves every other byte's protection bit.
-use mathlib.Core.Path.{_≡_, refl, sym, ap, _∙_}
+use mathlib.Core.Path.{_≡_, refl, sym, ap, ap₂, _∙_}
 use mathlib.Core.List.{List, [], _∷_}
 use mathlib.Core.Bool.{Bool, true, false}
 use mathlib.Core.Logic.{_⊎_, inl, inr, _≢_}
@@ -9,12 +9,12 @@ use native.Mathlib.Omega.{arith}
 use lib.Dec.{eqb, ltb}
 use lib.ListN.{length, set}
 use lib.Seq.{getD-set-other, getD-set-same, set-out}
-use borrow.Author.Tests.{eqb-true, eqb-false, ltb-true, ltb-false}
-use Rattle.words.specs.Choice.{_⇒_⁏_, _is_}
+use borrow.Author.Tests.{eqb-true, eqb-false, eq-eqb, ne-eqb, ltb-true, ltb-false}
+use Rattle.words.specs.Choice.{_⇒_⁏_, _and_, _or_, _is_}
 use Rattle.words.specs.Bytes.{byte}
-use Rattle.words.proofs.Choices.{either, alike}
-use Rattle.bits.specs.Bits.{bitOf, cleared, protectionBit, isProtected, protecting, protectEqual}
-use Rattle.bits.proofs.ProtectionLaws.{bit-counts}
+use Rattle.words.proofs.Choices.{either, alike, or-right, or-end, or-assoc}
+use Rattle.bits.specs.Bits.{bitOf, cleared, carries, protectionBit, isProtected, protecting, protectEqual}
+use Rattle.bits.proofs.ProtectionLaws.{bit-counts, protected-covered, length-protecting, byte-protectEqual}
 
 -- ---- one byte
 -- bit j + 1 of a number is bit j of its half
@@ -41,6 +41,21 @@ bit-cleared b (suc i) (suc j) h =
     ∙ ap (λ (n : ℕ). bitOf n j) e
     ∙ bit-cleared (b / 2) i j (λ p. h (ap suc p))
     ∙ sym (bit-half b j)
+
+-- the bit that is cleared is 0
+own-cleared : (b i : ℕ) → bitOf (cleared b i) i ≡ 0
+unfolding cleared
+own-cleared b zero = omega arith
+own-cleared b (suc i) =
+    let e : cleared b (suc i) / 2 ≡ cleared (b / 2) i = omega (arith, clear-half b i) in
+    bit-half (cleared b (suc i)) i ∙ ap (λ (n : ℕ). bitOf n i) e ∙ own-cleared (b / 2) i
+
+-- ---- a run of bytes
+-- one that ends before byte k carries nothing for it
+pub carries-before : (at : ℕ) (vs : List ℕ) (k x : ℕ) → at + length vs ≤ k → carries at vs k x ≡ false
+unfolding carries _and_ _or_
+carries-before at [] k x h = refl
+carries-before at (v ∷ vs) k x h = rw (ne-eqb at k (λ e. omega arith)) (carries-before (at + 1) vs k x (omega arith))
 
 -- ---- an image
 module _ (bits covered : ℕ) where
@@ -93,3 +108,48 @@ module _ (bits covered : ℕ) where
       → isProtected bits covered image′ k ≡ isProtected bits covered image k
   unfolding isProtected
   protected-same image image′ k e = ap (λ (n : ℕ). n is 0) e
+
+  -- ---- D1: a byte is protected afterwards where it was before, and where the run carries its value
+  own-protecting : (image : List ℕ) (k : ℕ) → k < covered → bits + k / 8 < length image → isProtected bits covered (protecting bits covered image k) k ≡ true
+  unfolding protecting
+  own-protecting image k h l =
+      let b = byte image (bits + k / 8) in
+      protected-covered bits covered (protecting bits covered image k) k h
+      ∙ ap (λ (n : ℕ). bitOf n (k % 8) is 0) (getD-set-same image (bits + k / 8) (cleared b (k % 8)) 0 l)
+      ∙ eq-eqb _ 0 (own-cleared b (k % 8))
+
+  module _ (k : ℕ) (h : k < covered) (front : k < bits) where
+    one-protected : (image : List ℕ) (at v : ℕ) → bits + k / 8 < length image
+        → isProtected bits covered (byte image at is v ⇒ protecting bits covered image at ⁏ image) k ≡ (isProtected bits covered image k or at is k and byte image k is v)
+    unfolding _and_
+    one-protected image at v l = go (at is k) refl
+      where
+        p : Bool
+        p = isProtected bits covered image k
+
+        there : at ≡ k → isProtected bits covered (byte image at is v ⇒ protecting bits covered image at ⁏ image) k ≡ (p or byte image k is v)
+        there e =
+            rw e (either (λ (x : List ℕ). isProtected bits covered x k ≡ (p or byte image k is v)) (byte image k is v)
+            (λ t. own-protecting image k h l ∙ sym (or-right p t))
+            (λ t. sym (ap (λ (b : Bool). p or b) t ∙ or-end p)))
+
+        go : (b : Bool) → at is k ≡ b → isProtected bits covered (byte image at is v ⇒ protecting bits covered image at ⁏ image) k ≡ (p or b and byte image k is v)
+        go true e = there (eqb-true at k e)
+        go false e =
+            either (λ (x : List ℕ). isProtected bits covered x k ≡ p) _
+            (λ _. protected-same image _ k (bit-protecting image at k (λ q. eqb-false at k e (sym q)))) (λ _. refl)
+            ∙ sym (or-end p)
+
+    pub protected-equal : (image : List ℕ) (at : ℕ) (vs : List ℕ) → bits + k / 8 < length image
+        → isProtected bits covered (protectEqual bits covered image at vs) k ≡ (isProtected bits covered image k or carries at vs k (byte image k))
+    unfolding protectEqual carries
+    protected-equal image at [] l = sym (or-end _)
+    protected-equal image at (v ∷ vs) l =
+        let image′ : List ℕ = byte image at is v ⇒ protecting bits covered image at ⁏ image in
+        let long : length image′ ≡ length image = either (λ (x : List ℕ). length x ≡ length image) _ (λ _. length-protecting bits covered image at) (λ _. refl) in
+        let same : byte image′ k ≡ byte image k = byte-protectEqual bits covered image at (v ∷ []) k (inl front) in
+        let p = isProtected bits covered image k in
+        let here = at is k and byte image k is v in
+        protected-equal image′ (at + 1) vs (omega (arith, long))
+        ∙ ap₂ (λ (a : Bool) (x : ℕ). a or carries (at + 1) vs k x) (one-protected image at v l) same
+        ∙ or-assoc p here _

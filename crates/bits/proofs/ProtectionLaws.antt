@@ -7,10 +7,10 @@ use Prim.Native.Nat.{ℕ, zero, suc, _+_, _-_, _*_, _/_, _%_, _^_, _≤_, _<_, m
 use native.Mathlib.Nat.{div-mul-le-self, mul-le-mul-right, le-trans, add-zero}
 use native.Mathlib.Numerals.{add-one}
 use native.Mathlib.Omega.{arith}
-use lib.Dec.{ltb}
+use lib.Dec.{eqb, ltb}
 use lib.ListN.{length, drop, length-set}
 use lib.Seq.{drop-cons, drop-length, getD-set-other}
-use borrow.Author.Tests.{eq-eqb, ne-eqb, lt-ltb, le-ltb, ltb-true, ltb-false}
+use borrow.Author.Tests.{eqb-true, eqb-false, eq-eqb, ne-eqb, lt-ltb, le-ltb, ltb-true, ltb-false}
 use Rattle.words.specs.Choice.{_⇒_⁏_, _is_}
 use Rattle.words.specs.Bytes.{byte}
 use Rattle.words.proofs.Choices.{first, rest, either}
@@ -92,6 +92,22 @@ module _ (bits covered : ℕ) where
           let here : isProtected bits covered image k ≡ false = sym (ap (isProtected bits covered image) (add-zero k)) ∙ h 0 (omega arith) in
           first-later image k to (ltb-true k to e) here ∙ later ∙ ap (λ (n : ℕ). firstProtected bits covered image n (to - n)) q
       go later false e = first-none image k to (ltb-false k to e) ∙ sym (first-none image (k + suc m) to (omega (arith, ltb-false k to e)))
+
+  -- where it finds none, no byte of the range is protected
+  pub first-free : (image : List ℕ) (k n j : ℕ) → firstProtected bits covered image k n ≡ Nowhere → k ≤ j → j < k + n → isProtected bits covered image j ≡ false
+  unfolding firstProtected _⇒_⁏_
+  first-free image k zero j e h l = absurd (omega arith)
+  first-free image k (suc n) j e h l = go (λ q r. first-free image (k + 1) n j q r (omega arith)) (isProtected bits covered image k) refl e (eqb k j) refl
+    where
+      none : At k ≡ Nowhere → isProtected bits covered image j ≡ false
+      none q = cc
+
+      go : (firstProtected bits covered image (k + 1) n ≡ Nowhere → k + 1 ≤ j → isProtected bits covered image j ≡ false)
+          → (b : Bool) → isProtected bits covered image k ≡ b → (b ⇒ At k ⁏ firstProtected bits covered image (k + 1) n) ≡ Nowhere
+          → (c : Bool) → eqb k j ≡ c → isProtected bits covered image j ≡ false
+      go later true p q c r = none q
+      go later false p q true r = ap (isProtected bits covered image) (sym (eqb-true k j r)) ∙ p
+      go later false p q false r = later q (omega (arith, eqb-false k j r))
 
   -- ---- bytes protected
   pub length-protecting : (image : List ℕ) (k : ℕ) → length (protecting bits covered image k) ≡ length image

@@ -1,10 +1,10 @@
 -- Protection bits: of a byte, the first protected one of a range, a byte protected, bits packed into bytes.
 use Prim.Native.Nat.{ℕ, zero, suc, _+_, _-_, _*_, _/_, _%_, _^_}
-use mathlib.Core.Bool.{Bool}
+use mathlib.Core.Bool.{Bool, false}
 use mathlib.Core.List.{List, [], _∷_}
 use lib.ListN.{set}
 use lib.Dec.{ltb}
-use Rattle.words.specs.Choice.{_⇒_⁏_, _is_}
+use Rattle.words.specs.Choice.{_⇒_⁏_, _and_, _or_, _is_}
 use Rattle.words.specs.Bytes.{byte, series}
 use Rattle.bits.specs.declared.Place.{Place}
 use Rattle.bits.specs.declared.Place.the-variants.{At, Nowhere}
@@ -15,6 +15,11 @@ bitOf b i = b / 2 ^ i % 2
 
 unfoldable pub cleared : ℕ → ℕ → ℕ
 cleared b i = b - bitOf b i * 2 ^ i
+
+-- a run of bytes from `at` on carries the value x for byte k
+unfoldable pub carries : ℕ → List ℕ → ℕ → ℕ → Bool
+carries at [] k x = false
+carries at (v ∷ vs) k x = at is k and x is v or carries (at + 1) vs k x
 
 -- In an image whose protection bytes start at `bits` and hold a bit for each of the first `covered` memory bytes:
 module _ (bits covered : ℕ) where

@@ -3,11 +3,27 @@
 
 use chips::Chip;
 ghost use mathlib.Core.Path.{_≡_};
+ghost use lib.ListN.{drop};
+ghost use Rattle.words.specs.Bytes.{blank};
 ghost use Rattle.chips.specs.Kinds.{facts};
 ghost use Rattle.card.specs.Images.{isCard};
 
-// Whether an image is a card of this chip: its length is the chip's, its counter is at most full, and the counter's own protection bit is
-// not 0. A card with no code has neither.
+// Whether every byte from k on is 00h.
+fn zero_from(image: &[u8], k: usize) -> bool
+    ensures { λ r. ⌜ r ≡ blank (drop k (now (image .entry))) ⌝ }
+{
+    let mut i = k;
+    while i < image.len() {
+        if image[i] != 0 {
+            return false;
+        }
+        i += 1;
+    }
+    true
+}
+
+// Whether an image is a card of this chip: its length is the chip's, its counter is at most full, the counter's own protection bit is
+// not 0, and the bytes that have to be 00h are. A card without a code has no counter; one with a code has no such bytes.
 pub fn is_card(chip: Chip, image: &[u8]) -> bool
     ensures { λ r. ⌜ r ≡ isCard (facts chip) (now (image .entry)) ⌝ }
 {
@@ -15,7 +31,7 @@ pub fn is_card(chip: Chip, image: &[u8]) -> bool
         return false;
     }
     if !chip.facts().coded {
-        return true;
+        return zero_from(image, chip.facts().zeros);
     }
     let at = chip.facts().counter;
     if chip.facts().full < image[at] {

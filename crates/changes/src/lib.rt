@@ -15,7 +15,7 @@ ghost use Rattle.words.specs.Bounds.{leastTail};
 ghost use Rattle.chips.specs.Kinds.{facts};
 ghost use Rattle.orders.specs.Orders.{Does, performed};
 
-// D0: a code card stores the bytes, an I2C card writes them by pages.
+// D0: an I2C card writes the bytes by pages, any other stores them.
 pub fn write(
     chip: Chip,
     slot: Slot,

@@ -26,7 +26,9 @@ known-kind Chip.I2c64 = refl
 known-kind Chip.I2c128 = refl
 known-kind Chip.I2c256 = refl
 known-kind Chip.Sle4428 = refl
+known-kind Chip.Sle4418 = refl
 known-kind Chip.Sle4442 = refl
+known-kind Chip.Sle4432 = refl
 
 -- a chip that is found has the number it was found by, and every test that holds of all of the list
 unfoldable pub allOf : (Chip → Bool) → List Chip → Bool

@@ -2,12 +2,12 @@
 use mathlib.Core.Path.{_≡_, refl, ap}
 use mathlib.Core.Bool.{Bool, true, false, not}
 use mathlib.Core.Logic.{_⊎_, inl, inr}
-use Prim.Native.Nat.{_+_, _/_, _%_, _≤_, _<_}
+use Prim.Native.Nat.{ℕ, _+_, _/_, _%_, _≤_, _<_}
 use lib.Dec.{leb, ltb}
 use borrow.Author.Tests.{eqb-true, leb-true, ltb-true, lt-ltb}
 use Rattle.words.specs.Choice.{_and_, _or_, _means_, _is_}
 use Rattle.words.specs.Bounds.{largest}
-use Rattle.words.proofs.Choices.{or-true}
+use Rattle.words.proofs.Choices.{or-true, means-true}
 use Rattle.chips.specs.Kinds.{facts}
 use Rattle.chips.specs.declared.Chip.{Chip}
 use Rattle.chips.specs.declared.Facts.{Facts}
@@ -43,41 +43,46 @@ laid chip = record {
   small = ltb-true _ _ (each (λ (f : Facts). ltb (f .full) 256) refl chip);
 }
 
--- ---- a code card: the code stands behind the counter, and D1 does not reach the counter's byte or its bit
+-- ---- n bytes from k on stand before the protection bytes, or behind those of the first m bytes
+abbrev pub Clear : ℕ → ℕ → ℕ → Facts → Type 0
+Clear k n m f = (k + n ≤ f .bits) ⊎ (f .bits + (m + 7) / 8 ≤ k)
+
+isClear : ℕ → ℕ → ℕ → Facts → Bool
+isClear k n m f = leb (k + n) (f .bits) or leb (f .bits + (m + 7) / 8) k
+
+clear-told : (k n m : ℕ) (f : Facts) → isClear k n m f ≡ true → Clear k n m f
+unfolding isClear
+clear-told k n m f e = go (or-true _ _ e)
+  where
+    go : (leb (k + n) (f .bits) ≡ true) ⊎ (leb (f .bits + (m + 7) / 8) k ≡ true) → Clear k n m f
+    go (inl h) = inl (leb-true _ _ h)
+    go (inr h) = inr (leb-true _ _ h)
+
+-- ---- a code card: the code stands behind the counter, D1 does not reach the counter's byte or its bit, and no byte has to be 00h
 pub record Coded (f : Facts) : Type 0 where
   pub coded : f .coded ≡ true
   pub inside : f .counter < f .size
   pub behind : f .counter < f .code
-  pub apart : (f .counter < f .bits) ⊎ (f .bits + (f .reach + 7) / 8 ≤ f .counter)
+  pub apart : Clear (f .counter) 1 (f .reach) f
   pub opens : 0 < f .full
   pub long : 2 ≤ f .digits
   pub pageless : f .page ≡ 0
-
-apart-test : Facts → Bool
-apart-test f = ltb (f .counter) (f .bits) or leb (f .bits + (f .reach + 7) / 8) (f .counter)
-
-apart-told : (f : Facts) → apart-test f ≡ true → (f .counter < f .bits) ⊎ (f .bits + (f .reach + 7) / 8 ≤ f .counter)
-unfolding apart-test
-apart-told f e = go (or-true _ _ e)
-  where
-    go : (ltb (f .counter) (f .bits) ≡ true) ⊎ (leb (f .bits + (f .reach + 7) / 8) (f .counter) ≡ true)
-        → (f .counter < f .bits) ⊎ (f .bits + (f .reach + 7) / 8 ≤ f .counter)
-    go (inl h) = inl (ltb-true _ _ h)
-    go (inr h) = inr (leb-true _ _ h)
+  pub filled : f .size ≤ f .zeros
 
 abbrev hasCode : Facts → Bool
 hasCode f = f .coded
 
 pub coded : (chip : Chip) → facts chip .coded ≡ true → Coded (facts chip)
-unfolding allOf _and_ _or_ _means_ apart-test
+unfolding allOf _and_ _or_ _means_ isClear
 coded chip c = record {
   coded = c;
   inside = ltb-true _ _ (each-of hasCode (λ (f : Facts). ltb (f .counter) (f .size)) refl chip c);
   behind = ltb-true _ _ (each-of hasCode (λ (f : Facts). ltb (f .counter) (f .code)) refl chip c);
-  apart = apart-told (facts chip) (each-of hasCode apart-test refl chip c);
+  apart = clear-told _ 1 _ (facts chip) (each-of hasCode (λ (f : Facts). isClear (f .counter) 1 (f .reach) f) refl chip c);
   opens = ltb-true _ _ (each-of hasCode (λ (f : Facts). ltb 0 (f .full)) refl chip c);
   long = leb-true _ _ (each-of hasCode (λ (f : Facts). leb 2 (f .digits)) refl chip c);
   pageless = eqb-true _ _ (each-of hasCode (λ (f : Facts). f .page is 0) refl chip c);
+  filled = leb-true _ _ (each-of hasCode (λ (f : Facts). leb (f .size) (f .zeros)) refl chip c);
 }
 
 -- ---- a card without a code: no code bytes, and a counter would stand past the image's end, and beyond every bit
@@ -119,4 +124,43 @@ guarded chip c = record {
   beyond = leb-true _ _ (each-of hasBit (λ (f : Facts). leb (f .code + f .digits) (f .bits)) refl chip (lt-ltb _ _ c));
   before = ltb-true _ _ (each-of hasBit (λ (f : Facts). ltb (f .counter) (f .bits)) refl chip (lt-ltb _ _ c));
   short = leb-true _ _ (each-of hasBit (λ (f : Facts). leb (f .reach) (f .counter)) refl chip (lt-ltb _ _ c));
+}
+
+-- ---- a card with protection bits: it has no pages, and memory, counter and code stand apart from the protection bytes; where D2 stores the
+-- code it is behind every byte that has a bit
+pub record Bitted (f : Facts) : Type 0 where
+  pub pageless : f .page ≡ 0
+  pub behind : f .memory ≤ f .bits
+  pub counter : Clear (f .counter) 1 (f .covered) f
+  pub code : Clear (f .code) (f .digits) (f .covered) f
+  pub past : f .coded and f .selects is 0x06 ≡ true → f .covered ≤ f .code
+
+abbrev hasBits : Facts → Bool
+hasBits f = ltb 0 (f .covered)
+
+pub bitted : (chip : Chip) → 0 < facts chip .covered → Bitted (facts chip)
+unfolding allOf _and_ _or_ _means_ isClear
+bitted chip c = record {
+  pageless = eqb-true _ _ (each-of hasBits (λ (f : Facts). f .page is 0) refl chip (lt-ltb _ _ c));
+  behind = leb-true _ _ (each-of hasBits (λ (f : Facts). leb (f .memory) (f .bits)) refl chip (lt-ltb _ _ c));
+  counter = clear-told _ 1 _ (facts chip) (each-of hasBits (λ (f : Facts). isClear (f .counter) 1 (f .covered) f) refl chip (lt-ltb _ _ c));
+  code = clear-told _ _ _ (facts chip) (each-of hasBits (λ (f : Facts). isClear (f .code) (f .digits) (f .covered) f) refl chip (lt-ltb _ _ c));
+  past = λ h. leb-true _ _ (means-true _ _ (each-of hasBits (λ (f : Facts). f .coded and f .selects is 0x06 means leb (f .covered) (f .code)) refl chip (lt-ltb _ _ c)) h);
+}
+
+-- ---- bytes that have to be 00h stand behind memory and protection bytes, on a card without pages; a code card has none (`Coded.filled`)
+pub record Zeroed (f : Facts) : Type 0 where
+  pub pageless : f .page ≡ 0
+  pub behind : f .memory ≤ f .zeros
+  pub beyond : f .bits + (f .reach + 7) / 8 ≤ f .zeros
+
+abbrev hasZeros : Facts → Bool
+hasZeros f = ltb (f .zeros) (f .size)
+
+pub zeroed : (chip : Chip) → facts chip .zeros < facts chip .size → Zeroed (facts chip)
+unfolding allOf _and_ _means_
+zeroed chip c = record {
+  pageless = eqb-true _ _ (each-of hasZeros (λ (f : Facts). f .page is 0) refl chip (lt-ltb _ _ c));
+  behind = leb-true _ _ (each-of hasZeros (λ (f : Facts). leb (f .memory) (f .zeros)) refl chip (lt-ltb _ _ c));
+  beyond = leb-true _ _ (each-of hasZeros (λ (f : Facts). leb (f .bits + (f .reach + 7) / 8) (f .zeros)) refl chip (lt-ltb _ _ c));
 }

@@ -5,7 +5,7 @@ use mathlib.Core.Bool.{true, false}
 use mathlib.Core.List.{List, [], _∷_}
 use Rattle.words.specs.Choice.{_⇒_⁏_, _is_}
 use Rattle.chips.specs.declared.Chip.{Chip}
-use Rattle.chips.specs.declared.Chip.the-variants.{I2c1, I2c2, I2c4, I2c8, I2c16, I2c32, I2c64, I2c128, I2c256, Sle4428, Sle4442}
+use Rattle.chips.specs.declared.Chip.the-variants.{I2c1, I2c2, I2c4, I2c8, I2c16, I2c32, I2c64, I2c128, I2c256, Sle4428, Sle4418, Sle4442, Sle4432}
 use Rattle.chips.specs.declared.Facts.{Facts}
 use Rattle.chips.specs.declared.Known.{Known}
 use Rattle.chips.specs.declared.Known.the-variants.{Is, Unknown}
@@ -26,6 +26,7 @@ i2c k n p t = record {
   bits = n;
   covered = 0;
   reach = 0;
+  zeros = n;
 }
 
 -- kind, image bytes, chip page, select type
@@ -54,6 +55,25 @@ facts Sle4428 = record {
   bits = 1024;
   covered = 1024;
   reach = 0x3FD;
+  zeros = 1152;
+}
+-- SLE4418: image and type as the SLE4428's, but no code. "bytes 3FDh to 3FFh are plain memory with their protection bits honoured", "and D0
+-- and D1 may reach them": D1 reaches all 1024 bytes, and a counter and a code would stand past the image's end
+facts Sle4418 = record {
+  kind = 21;
+  size = 1152;
+  memory = 1024;
+  page = 0;
+  selects = 0x05;
+  coded = false;
+  full = 0;
+  counter = 1152;
+  code = 1152;
+  digits = 0;
+  bits = 1024;
+  covered = 1024;
+  reach = 1024;
+  zeros = 1152;
 }
 -- SLE4442 image: 256 memory bytes, 4 protection bytes (memory 0..31), counter, 3 code bytes
 facts Sle4442 = record {
@@ -70,11 +90,29 @@ facts Sle4442 = record {
   bits = 256;
   covered = 32;
   reach = 32;
+  zeros = 264;
+}
+-- SLE4432: image and type as the SLE4442's, but no code: "the last four image bytes must be 00h and never change"
+facts Sle4432 = record {
+  kind = 31;
+  size = 264;
+  memory = 256;
+  page = 0;
+  selects = 0x06;
+  coded = false;
+  full = 0;
+  counter = 264;
+  code = 264;
+  digits = 0;
+  bits = 256;
+  covered = 32;
+  reach = 32;
+  zeros = 260;
 }
 
 -- every chip, once
 abbrev pub chips : List Chip
-chips = I2c1 ∷ I2c2 ∷ I2c4 ∷ I2c8 ∷ I2c16 ∷ I2c32 ∷ I2c64 ∷ I2c128 ∷ I2c256 ∷ Sle4428 ∷ Sle4442 ∷ []
+chips = I2c1 ∷ I2c2 ∷ I2c4 ∷ I2c8 ∷ I2c16 ∷ I2c32 ∷ I2c64 ∷ I2c128 ∷ I2c256 ∷ Sle4428 ∷ Sle4418 ∷ Sle4442 ∷ Sle4432 ∷ []
 
 -- the chip of a kind number: the one whose row has it
 unfoldable pub chipAmong : ℕ → List Chip → Known

@@ -4,7 +4,8 @@
 ghost use mathlib.Core.Path.{_≡_};
 ghost use Rattle.chips.specs.Kinds.{i2c, facts, chipOf};
 
-// The chips of the kinds, smallest first.
+// The chips of the kinds, by what they have: memory alone, then protection bits, then a code too. Whether a card has one of them is then a
+// range of cases, which compiles to a comparison.
 pub enum Chip {
     I2c1,
     I2c2,
@@ -15,6 +16,8 @@ pub enum Chip {
     I2c64,
     I2c128,
     I2c256,
+    Sle4418,
+    Sle4432,
     Sle4428,
     Sle4442,
 }
@@ -49,6 +52,8 @@ pub struct Facts {
     pub covered: usize,
     // How many memory bytes, from 0 on, D1 may reach.
     pub reach: usize,
+    // From where on the image is 00h and stays so; its size where no byte is.
+    pub zeros: usize,
 }
 
 // An I2C card is memory alone.
@@ -69,6 +74,7 @@ fn i2c_row(kind: u8, size: usize, page: usize, selects: u8) -> Facts
         bits: size,
         covered: 0,
         reach: 0,
+        zeros: size,
     }
 }
 
@@ -101,6 +107,23 @@ impl Chip {
                 bits: 1024,
                 covered: 1024,
                 reach: 0x3FD,
+                zeros: 1152,
+            },
+            Chip::Sle4418 => Facts {
+                kind: 21,
+                size: 1152,
+                memory: 1024,
+                page: 0,
+                selects: 0x05,
+                coded: false,
+                full: 0,
+                counter: 1152,
+                code: 1152,
+                digits: 0,
+                bits: 1024,
+                covered: 1024,
+                reach: 1024,
+                zeros: 1152,
             },
             Chip::Sle4442 => Facts {
                 kind: 30,
@@ -116,6 +139,23 @@ impl Chip {
                 bits: 256,
                 covered: 32,
                 reach: 32,
+                zeros: 264,
+            },
+            Chip::Sle4432 => Facts {
+                kind: 31,
+                size: 264,
+                memory: 256,
+                page: 0,
+                selects: 0x06,
+                coded: false,
+                full: 0,
+                counter: 264,
+                code: 264,
+                digits: 0,
+                bits: 256,
+                covered: 32,
+                reach: 32,
+                zeros: 260,
             },
         }
     }
@@ -136,7 +176,9 @@ pub fn chip_of(kind: u8) -> Known
         8 => Known::Is(Chip::I2c128),
         9 => Known::Is(Chip::I2c256),
         20 => Known::Is(Chip::Sle4428),
+        21 => Known::Is(Chip::Sle4418),
         30 => Known::Is(Chip::Sle4442),
-        0 | 10..=19 | 21..=29 | 31..=255 => Known::Unknown,
+        31 => Known::Is(Chip::Sle4432),
+        0 | 10..=19 | 22..=29 | 32..=255 => Known::Unknown,
     }
 }

@@ -47,7 +47,7 @@ pub record Outcome : Type 0 where
 abbrev pub turnedDown : Refusal → Slot → List ℕ → Outcome
 turnedDown r s image = record { number = numberOf r; answer = []; slot = s; image = image }
 
--- Power on: "data 3B 00 for I2C, 3B 04 and the first four memory bytes for a code card"
+-- Power on: "data 3B 00 for I2C, 3B 04 and the first four memory bytes for a code card"; 02: a card without a code as one with
 unfoldable pub reset : Facts → List ℕ → List ℕ
 reset f image = f .page isnt 0 ⇒ 0x3B ∷ 0x00 ∷ [] ⁏ 0x3B ∷ 0x04 ∷ take 4 image
 

@@ -1,19 +1,19 @@
--- What an order leaves of the image: its length always, the counter unless a code is presented, and being a card of its kind; while the
--- card is closed nothing but a presented code changes a byte of a code card.
+-- What an order leaves of the image: its length and the bytes that have to be 00h always, the counter unless a code is presented, and
+-- being a card of its kind; while the card is closed nothing but a presented code changes a byte of a code card.
 use mathlib.Core.Path.{_≡_, refl, sym, ap, _∙_, subst⁻¹}
 use mathlib.Core.List.{List}
 use mathlib.Core.Bool.{Bool, true, false, not, true≢false}
 use mathlib.Core.Logic.{_⊎_, inl, inr}
 use Prim.Native.Nat.{ℕ, _+_, _/_, _≤_, _<_}
 use native.Mathlib.Omega.{arith}
-use lib.ListN.{length}
+use lib.ListN.{length, drop, List·getD-eq-default}
 use lib.Seq.{sets, length-sets}
 use lib.Dec.{ltb}
 use borrow.Author.Tests.{eq-eqb, ltb-true, ltb-false}
 use Rattle.words.specs.Choice.{_and_}
-use Rattle.words.specs.Bytes.{byte}
+use Rattle.words.specs.Bytes.{byte, blank}
 use Rattle.words.proofs.Choices.{either, first}
-use Rattle.words.proofs.Lists.{byte-sets}
+use Rattle.words.proofs.Lists.{byte-sets, blank-byte, byte-blank}
 use Rattle.chips.specs.declared.Chip.{Chip}
 use Rattle.chips.specs.declared.Facts.{Facts}
 use Rattle.chips.specs.Kinds.{facts}
@@ -21,7 +21,7 @@ use Rattle.bits.specs.Bits.{protectionBit, isProtected}
 use Rattle.codes.proofs.CounterLaws.{spent-le}
 use Rattle.bits.proofs.ProtectionLaws.{length-protectEqual, byte-protectEqual, protected-beyond}
 use Rattle.bits.proofs.BitLaws.{bit-protectEqual, bit-same, protected-same}
-use Rattle.chips.proofs.KindLaws.{Coded, coded, Guarded, guarded}
+use Rattle.chips.proofs.KindLaws.{Clear, Coded, coded, Guarded, guarded, zeroed}
 use Rattle.card.proofs.ImageLaws.{IsCard, plain-card}
 use Rattle.slot.specs.declared.Slot.{Slot}
 use Rattle.pages.proofs.PageLaws.{length-pageWrite}
@@ -53,12 +53,13 @@ module _ (f : Facts) (s : Slot) (image b : List ℕ) where
   length-imageBy Order.Present = length-presenting (f .counter) (f .full) (f .code) (f .digits) image b
   length-imageBy Order.Change = length-sets image (f .code) b
 
+  -- a card without pages stores the bytes
+  pub written-sets : f .page ≡ 0 → (page at : ℕ) → written page (f .page) image at b ≡ sets image at b
+  unfolding written
+  written-sets e page at = first _ _ (eq-eqb _ _ e)
+
 -- ---- the counter, and its protection bit
 module _ (f : Facts) (c : Coded f) (s : Slot) (image b : List ℕ) where
-  pub written-sets : (page at : ℕ) → written page (f .page) image at b ≡ sets image at b
-  unfolding written
-  written-sets page at = first _ _ (eq-eqb _ _ (c .pageless))
-
   -- an order that presents no code leaves the counter
   pub counter-kept : (o : Order) → Fit f b o → presents o ≡ false → byte (imageBy f s image b o) (f .counter) ≡ byte image (f .counter)
   unfolding imageBy
@@ -68,15 +69,15 @@ module _ (f : Facts) (c : Coded f) (s : Slot) (image b : List ℕ) where
   counter-kept (Order.Read at n) h ne = refl
   counter-kept (Order.Counter n) h ne = refl
   counter-kept (Order.Bits at n) h ne = refl
-  counter-kept (Order.Write at) h ne = ap (λ (l : List ℕ). byte l (f .counter)) (written-sets (s .page) at) ∙ byte-sets image at b (f .counter) (go (h .2))
+  counter-kept (Order.Write at) h ne = ap (λ (l : List ℕ). byte l (f .counter)) (written-sets f s image b (c .pageless) (s .page) at) ∙ byte-sets image at b (f .counter) (go (h .2))
     where
       go : (at + length b ≤ f .counter) ⊎ (f .counter < at) → (f .counter < at) ⊎ (at + length b ≤ f .counter)
       go (inl k) = inr k
       go (inr k) = inl k
   counter-kept (Order.Protect at) h ne = byte-protectEqual (f .bits) (f .covered) image at b (f .counter) (go (c .apart))
     where
-      go : (f .counter < f .bits) ⊎ (f .bits + (f .reach + 7) / 8 ≤ f .counter) → (f .counter < f .bits) ⊎ (f .bits + (at + length b + 7) / 8 ≤ f .counter)
-      go (inl k) = inl k
+      go : Clear (f .counter) 1 (f .reach) f → (f .counter < f .bits) ⊎ (f .bits + (at + length b + 7) / 8 ≤ f .counter)
+      go (inl k) = inl (omega arith)
       go (inr k) = inr (omega arith)
   counter-kept Order.Present h ne = absurd (true≢false ne)
   counter-kept Order.Change h ne = byte-sets image (f .code) b (f .counter) (inl (c .behind))
@@ -92,7 +93,7 @@ module _ (f : Facts) (c : Coded f) (s : Slot) (image b : List ℕ) where
   bit-kept g (Order.Counter n) h = refl
   bit-kept g (Order.Bits at n) h = refl
   bit-kept g (Order.Write at) h =
-      ap (λ (l : List ℕ). protectionBit (f .bits) (f .covered) l (f .counter)) (written-sets (s .page) at)
+      ap (λ (l : List ℕ). protectionBit (f .bits) (f .covered) l (f .counter)) (written-sets f s image b (c .pageless) (s .page) at)
       ∙ bit-same (f .bits) (f .covered) image (sets image at b) (f .counter)
       (byte-sets image at b (f .bits + f .counter / 8) (inr (omega (arith, h .0, g .behind))))
   bit-kept g (Order.Protect at) h = bit-protectEqual (f .bits) (f .covered) image at b (f .counter) (inr (omega (arith, g .short)))
@@ -120,6 +121,41 @@ module _ (f : Facts) (c : Coded f) (s : Slot) (image b : List ℕ) where
       go true e = subst⁻¹ (λ (o : Order). byte (imageBy f s image b o) (f .counter) ≤ f .full) (presents-is o e) (present-within k)
       go false e = omega (arith, counter-kept o h e, k .within)
 
+-- ---- the bytes that have to be 00h
+module _ (chip : Chip) (s : Slot) (image b : List ℕ) where
+  abbrev f : Facts
+  f = facts chip
+
+  -- a code card has none
+  no-zeros : {A : Type 0} → f .coded ≡ true → f .zeros < f .size → A
+  no-zeros c l = absurd (omega (arith, coded chip c .filled))
+
+  tail-kept : f .zeros < f .size → (o : Order) → Fit f b o → (k : ℕ) → f .zeros ≤ k → byte (imageBy f s image b o) k ≡ byte image k
+  unfolding imageBy
+  tail-kept l (Order.Refuse status) h k e = refl
+  tail-kept l Order.Select h k e = refl
+  tail-kept l (Order.Page p) h k e = refl
+  tail-kept l (Order.Read at n) h k e = refl
+  tail-kept l (Order.Counter n) h k e = refl
+  tail-kept l (Order.Bits at n) h k e = refl
+  tail-kept l (Order.Write at) h k e =
+      ap (λ (x : List ℕ). byte x k) (written-sets f s image b (zeroed chip l .pageless) (s .page) at)
+      ∙ byte-sets image at b k (inr (omega (arith, h .0, zeroed chip l .behind)))
+  tail-kept l (Order.Protect at) h k e = byte-protectEqual (f .bits) (f .covered) image at b k (inr (omega (arith, h .0, zeroed chip l .beyond)))
+  tail-kept l Order.Present h k e = no-zeros (h .0) l
+  tail-kept l Order.Change h k e = no-zeros (h .0) l
+
+  -- every order leaves them
+  pub zeros-kept : length image ≡ f .size → (o : Order) → Fit f b o → (k : ℕ) → f .zeros ≤ k → byte (imageBy f s image b o) k ≡ byte image k
+  zeros-kept long o h k e = go (ltb (f .zeros) (f .size)) refl
+    where
+      go : (t : Bool) → ltb (f .zeros) (f .size) ≡ t → byte (imageBy f s image b o) k ≡ byte image k
+      go true l = tail-kept (ltb-true _ _ l) o h k e
+      go false l =
+          let past : f .size ≤ k = omega (arith, ltb-false (f .zeros) (f .size) l) in
+          List·getD-eq-default (imageBy f s image b o) 0 {n = k} (omega (arith, length-imageBy f s image b o, long))
+          ∙ sym (List·getD-eq-default image 0 {n = k} (omega (arith, long)))
+
 -- ---- a card stays a card of its kind
 pub card-kept : (chip : Chip) (s : Slot) (image b : List ℕ) (o : Order) → IsCard (facts chip) image → Fit (facts chip) b o → IsCard (facts chip) (imageBy (facts chip) s image b o)
 card-kept chip s image b o k h = go (facts chip .coded) refl
@@ -134,9 +170,12 @@ card-kept chip s image b o k h = go (facts chip .coded) refl
     bare c false e = protected-beyond (f .bits) (f .covered) _ (f .counter) (ltb-false _ _ e)
     bare c true e = protected-same (f .bits) (f .covered) image _ (f .counter) (bit-kept f c s image b (guarded chip (ltb-true _ _ e)) o h) ∙ k .bare
 
+    zeros : blank (drop (f .zeros) (imageBy f s image b o)) ≡ true
+    zeros = byte-blank _ (f .zeros) (λ i l. zeros-kept chip s image b (k .long) o h i l ∙ blank-byte image (f .zeros) i (k .zeros) l)
+
     go : (t : Bool) → f .coded ≡ t → IsCard f (imageBy f s image b o)
-    go false e = plain-card chip _ e long
-    go true e = record { long = long; within = within-kept f (coded chip e) s image b k o h; bare = bare (coded chip e) (ltb (f .counter) (f .covered)) refl }
+    go false e = plain-card chip _ e long zeros
+    go true e = record { long = long; within = within-kept f (coded chip e) s image b k o h; bare = bare (coded chip e) (ltb (f .counter) (f .covered)) refl; zeros = zeros }
 
 -- ---- a closed card
 module _ (f : Facts) (s : Slot) (image d : List ℕ) (coded : f .coded ≡ true) (shut : s .«open» ≡ false) where

@@ -68,7 +68,7 @@ page-sized v e = go v (leb-true _ _ (and-true _ _ e .0)) (leb-true _ _ (and-true
     go (suc (suc (suc (suc (suc (suc (suc zero))))))) h k = refl
     go (suc (suc (suc (suc (suc (suc (suc (suc v)))))))) h k = absurd (omega arith)
 
--- whether a counter is full is told by its byte alone, and an I2C card has none
+-- whether a counter is full is told by its byte alone, and a card without a code has none
 full-same : (chip : Chip) (image image′ : List ℕ) → (facts chip .coded ≡ true → byte image′ (facts chip .counter) ≡ byte image (facts chip .counter))
     → fullCode (Card chip) image′ ≡ fullCode (Card chip) image
 unfolding _and_

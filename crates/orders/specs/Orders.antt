@@ -1,14 +1,14 @@
 -- What an order says and does: the answer's data and status word, the next image, the next slot record.
 use mathlib.Core.Path.{_≡_}
 use Prim.Native.Nat.{ℕ}
-use mathlib.Core.Bool.{Bool}
+use mathlib.Core.Bool.{Bool, false}
 use mathlib.Core.List.{List, [], _∷_, _++_}
 use lib.ListN.{length}
 use lib.Seq.{sets}
 use Rattle.words.specs.Choice.{_⇒_⁏_}
 use Rattle.words.specs.Bytes.{byte, over}
 use Rattle.chips.specs.declared.Facts.{Facts}
-use Rattle.bits.specs.Bits.{protectEqual, packedBytes}
+use Rattle.bits.specs.Bits.{carries, protectEqual, packedBytes}
 use Rattle.slot.specs.declared.Slot.{Slot}
 use Rattle.slot.specs.Slots.{selecting, paged, opened, closed}
 use Rattle.reads.specs.Reads.{bytesRead, counterRead}
@@ -88,3 +88,16 @@ pub record Does (d : Deed) (told : Told) (left was holds : List ℕ) : Type 0 wh
   pub slot : told .slot ≡ d .slot
   pub image : left ≡ d .image
   pub out : holds ≡ over (d .said) was
+
+-- the order is a D1 that carries byte k's value, b being the data after P3
+abbrev pub carriesBy : List ℕ → List ℕ → ℕ → Order → Bool
+carriesBy image b k (Order.Refuse status) = false
+carriesBy image b k Order.Select = false
+carriesBy image b k (Order.Page p) = false
+carriesBy image b k (Order.Read at n) = false
+carriesBy image b k (Order.Counter n) = false
+carriesBy image b k (Order.Bits at n) = false
+carriesBy image b k (Order.Write at) = false
+carriesBy image b k (Order.Protect at) = carries at b k (byte image k)
+carriesBy image b k Order.Present = false
+carriesBy image b k Order.Change = false

@@ -20,6 +20,7 @@ unfoldable pub pageWrite : ℕ → ℕ → List ℕ → ℕ → ℕ → List ℕ
 pageWrite reader chip image c a [] = image
 pageWrite reader chip image c a (v ∷ vs) = pageWrite reader chip (set image (lands chip (cutStart reader c a) a) v) (cutStart reader c a) (a + 1) vs
 
--- "D0 on a code card stores the bytes"; "D0 on I2C" writes pages, `chip` being the chip page, 0 where there is none
+-- "D0 on a code card stores the bytes", and 02 on a card without a code too; "D0 on I2C" writes pages, `chip` being the chip page, 0 where
+-- there is none
 unfoldable pub written : ℕ → ℕ → List ℕ → ℕ → List ℕ → List ℕ
 written reader chip image at vs = chip is 0 ⇒ sets image at vs ⁏ pageWrite reader chip image at at vs

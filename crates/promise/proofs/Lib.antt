@@ -12,3 +12,6 @@ pub mod Costs
 pub mod Pages
 pub mod Visits
 pub mod Parameters
+pub mod Protected
+pub mod Plain
+pub mod Guarded

@@ -2,7 +2,7 @@
 use Prim.Native.Nat.{ℕ}
 use lib.Count.{trailingZeros}
 use Rattle.words.specs.Choice.{_⇒_⁏_, _and_, _or_, _means_}
-use Rattle.words.specs.Bytes.{same, fourBytes, fourAt, numberIn, byteOf, lowFirst, over, series}
+use Rattle.words.specs.Bytes.{blank, same, fourBytes, fourAt, numberIn, byteOf, lowFirst, over, series}
 use Rattle.chips.specs.Kinds.{chipAmong, chipOf}
 use Rattle.bits.specs.Bits.{cleared, protectionBit, isProtected, firstProtected, protecting, protectEqual, packed, packedBytes}
 use Rattle.codes.specs.Counters.{spent}
@@ -20,7 +20,7 @@ use Rattle.frame.specs.Exchange.{reset, deed, replied, reply, served, exchange,
 use Rattle.reader.specs.Runs.{run}
 
 unfoldable pub rules : ℕ
-unfolding trailingZeros _⇒_⁏_ _and_ _or_ _means_ same fourBytes fourAt numberIn byteOf lowFirst over series chipAmong chipOf spent cleared protectionBit isProtected
+unfolding trailingZeros _⇒_⁏_ _and_ _or_ _means_ blank same fourBytes fourAt numberIn byteOf lowFirst over series chipAmong chipOf spent cleared protectionBit isProtected
     firstProtected protecting protectEqual packed packedBytes setWith defaultSet lengthOf fitsLength longWait
     faultAt setOf takes isCard pageSize emptySound idleSound typeSound openSound setSound sound visible bytesRead
     counterRead cutStart lands pageWrite written spending judging presenting accepts insOf steps order saidBy imageBy slotBy performed commanded reset

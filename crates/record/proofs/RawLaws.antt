@@ -10,22 +10,17 @@ use lib.Dec.{ltb}
 use lib.Seq.{drop-cons, sets, sets-eq}
 use borrow.Author.Tests.{eq-eqb, ne-eqb, eqb-true, not-false, ltb-false}
 use Rattle.words.specs.Choice.{_and_, _is_, _isnt_}
-use Rattle.words.specs.Bytes.{byte, fourAt, eightAt, lowFirst}
+use Rattle.words.specs.Bytes.{byte, blank, fourAt, eightAt, lowFirst}
 use Rattle.words.proofs.Choices.{either, and-end, and-fails, and-holds}
-use Rattle.words.proofs.Lists.{sets-snoc, sum-zero}
+use Rattle.words.proofs.Lists.{sets-snoc, blank-step, sum-zero}
 use Rattle.slot.specs.declared.Slot.{Slot}
 use Rattle.slot.specs.declared.Holds.{Holds}
 use Rattle.slot.specs.Slots.{removed}
 use Rattle.record.specs.declared.Reading.{Reading}
-use Rattle.record.specs.Raw.{kindOf, stateOf, rawOf, blank, slotFrom, slotWith}
+use Rattle.record.specs.Raw.{kindOf, stateOf, rawOf, slotFrom, slotWith}
 
 -- ---- blank bytes
--- one more
-blank-step : (l : List ℕ) (i j : ℕ) → j ≡ i + 1 → i < length l → blank (drop i l) ≡ (byte l i is 0 and blank (drop j l))
-unfolding blank
-blank-step l i j e h = rw (drop-cons l i 0 h, e, add-one i)
-
--- so the number in four bytes, or in eight, is 0 where every byte is
+-- the number in four bytes, or in eight, is 0 where every byte is
 blank-four : (l : List ℕ) (k : ℕ) → k + 4 ≤ length l → blank (drop k l) ≡ (fourAt l k is 0 and blank (drop (k + 4) l))
 unfolding fourAt
 blank-four l k h =

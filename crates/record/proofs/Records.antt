@@ -7,7 +7,7 @@ use native.Mathlib.Omega.{arith}
 use lib.ListN.{length, take, drop, replicate, length-drop, take-append-drop}
 use borrow.Author.Tests.{eqb-true, ne-eqb}
 use Rattle.words.specs.Choice.{_⇒_⁏_, _and_, _is_}
-use Rattle.words.specs.Bytes.{AllBytes, byte, fourAt, eightAt, lowFirst, series}
+use Rattle.words.specs.Bytes.{AllBytes, byte, blank, fourAt, eightAt, lowFirst, series}
 use Rattle.words.proofs.Numbers.{eight-back, series-bytes, eight-number, low-number}
 use Rattle.words.proofs.Lists.{length-series, series-part}
 use Rattle.words.proofs.Choices.{rest, either, and-true}
@@ -19,7 +19,7 @@ use Rattle.slot.specs.declared.Slot.{Slot}
 use Rattle.slot.specs.declared.Holds.{Holds}
 use Rattle.slot.specs.Slots.{slotted}
 use Rattle.record.specs.declared.Reading.{Reading}
-use Rattle.record.specs.Raw.{kindOf, flagOf, rawOf, blank, slotWith, cardWith, slotOf}
+use Rattle.record.specs.Raw.{kindOf, flagOf, rawOf, slotWith, cardWith, slotOf}
 use Rattle.record.proofs.RawLaws.{Made, found-with, unknown-found}
 
 -- ---- what is written reads back as the same slot

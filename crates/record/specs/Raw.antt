@@ -5,7 +5,7 @@ use mathlib.Core.List.{List, [], _∷_, _++_}
 use lib.ListN.{length, drop, replicate}
 use lib.Dec.{ltb}
 use Rattle.words.specs.Choice.{_⇒_⁏_, _and_, _is_, _isnt_}
-use Rattle.words.specs.Bytes.{byte, eightAt, lowFirst}
+use Rattle.words.specs.Bytes.{byte, blank, eightAt, lowFirst}
 use Rattle.chips.specs.declared.Known.{Known}
 use Rattle.chips.specs.declared.Known.the-variants.{Is, Unknown}
 use Rattle.chips.specs.Kinds.{facts, chipOf}
@@ -35,11 +35,6 @@ unfoldable pub rawOf : Slot → List ℕ
 rawOf s = kindOf (s .holds) ∷ stateOf s ++ replicate 19 0
 
 -- ---- what is read
--- bytes that are 00h, all of them
-unfoldable pub blank : List ℕ → Bool
-blank [] = true
-blank (x ∷ xs) = x is 0 and blank xs
-
 abbrev pub slotFrom : Holds → List ℕ → Slot
 slotFrom h r = slotted h (byte r 1 is 1) (byte r 2) (byte r 3) (byte r 4 is 1) (eightAt r 5)
 

@@ -14,7 +14,8 @@ ghost use Prim.Native.Nat.{_≤_};
 ghost use lib.ListN.{length, drop, replicate};
 ghost use lib.Seq.{sets};
 ghost use Rattle.words.specs.Choice.{_⇒_⁏_, _is_};
-ghost use Rattle.record.specs.Raw.{kindOf, flagOf, stateOf, rawOf, blank, slotWith, slotOf};
+ghost use Rattle.words.specs.Bytes.{blank};
+ghost use Rattle.record.specs.Raw.{kindOf, flagOf, stateOf, rawOf, slotWith, slotOf};
 
 // What a raw record is read as.
 pub enum Reading {

@@ -87,6 +87,7 @@ needsType Change = true
 needsType Other = true
 
 -- step 5: "I2C has 01 B0 D0; 05h has B0 B1 B2 D0 D1 20; 06h those and D2". The selected type is the card's own, as the record is sound.
+-- 02, on a card without a code: "step 5 gives 6D 00 for B1, 20, D2".
 abbrev pub has : Facts → Ins → Bool
 has f Select = true
 has f Page = f .page isnt 0
@@ -127,7 +128,8 @@ lengthFits f Other n = false
 
 -- step 7: "P1P2 is 0000h for A4, 01, B1, 20 and 06h's B2; 0001h for D2; else the address, where address + P3 must not pass the memory
 -- size. D1 must stay in 0..31 (06h) or 0..3FCh (05h). D0 on 05h must not cover 3FDh. B2 on 05h needs address + 8·P3 at most 1024".
--- 06h's B2 has P3 4 and 32 bits, so its address is 0. Only an SLE4428 has its counter below the memory size.
+-- 06h's B2 has P3 4 and 32 bits, so its address is 0. Only an SLE4428 has its counter below the memory size. 02, on an SLE4418: "D0 and D1
+-- may reach" 3FDh to 3FFh.
 abbrev pub placeFits : Facts → Ins → ℕ → ℕ → Bool
 placeFits f Select at n = at is 0
 placeFits f Page at n = at is 0
@@ -153,7 +155,7 @@ valueFits f Present v = true
 valueFits f Change v = true
 valueFits f Other v = true
 
--- step 9: "code card closed and INS D0, D1 or D2"
+-- step 9: "code card closed and INS D0, D1 or D2"; 02, on a card without a code: "step 9 does not apply"
 abbrev pub needsOpen : Ins → Bool
 needsOpen Select = false
 needsOpen Page = false
@@ -166,7 +168,7 @@ needsOpen Present = false
 needsOpen Change = true
 needsOpen Other = false
 
--- step 10: "D0 on a code card where any byte of the range is protected"
+-- step 10: "D0 on a code card where any byte of the range is protected"; 02: on a card without a code too
 abbrev pub found : Place → Bool
 found (At k) = true
 found Nowhere = false

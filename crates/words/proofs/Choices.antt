@@ -111,6 +111,11 @@ unfolding _or_
 or-end true = refl
 or-end false = refl
 
+pub or-assoc : (a b c : Bool) → (a or b) or c ≡ (a or b or c)
+unfolding _or_
+or-assoc true b c = refl
+or-assoc false b c = refl
+
 -- a second test that fails
 pub and-last : (a : Bool) {b : Bool} → b ≡ false → a and b ≡ false
 unfolding _and_

@@ -14,8 +14,8 @@ use lib.Dec.{ltb}
 use borrow.Rule.Slice.PartMut.{putMid}
 use borrow.Author.Tests.{eq-eqb, ne-eqb, eqb-true, ltb-true, ltb-false}
 use Rattle.words.specs.Choice.{_and_, _is_}
-use Rattle.words.specs.Bytes.{byte, same, fourAt, over, series}
-use Rattle.words.proofs.Choices.{and-fails, and-holds, and-true}
+use Rattle.words.specs.Bytes.{byte, blank, same, fourAt, over, series}
+use Rattle.words.proofs.Choices.{and-fails, and-holds, and-true, both}
 
 -- ---- bytes over a buffer
 -- a loop that copies from the front: one turn
@@ -216,6 +216,34 @@ same-self (x ∷ a) = sym (and-holds (eq-eqb x x refl) (sym (same-self a)))
 
 pub same-of : {a b : List ℕ} → a ≡ b → same a b ≡ true
 same-of {a} e = subst (λ (l : List ℕ). same a l ≡ true) e (same-self a)
+
+-- ---- bytes that are 00h
+-- one more, and none left
+pub blank-step : (l : List ℕ) (i j : ℕ) → j ≡ i + 1 → i < length l → blank (drop i l) ≡ (byte l i is 0 and blank (drop j l))
+unfolding blank
+blank-step l i j e h = rw (drop-cons l i 0 h, e, add-one i)
+
+pub blank-end : (l : List ℕ) (i : ℕ) → length l ≤ i → blank (drop i l) ≡ true
+unfolding blank
+blank-end l i h = rw (drop-of-length-le l {i = i} h)
+
+-- from a place on they are 00h where each of them is
+blank-all : (l : List ℕ) → blank l ≡ true → (k : ℕ) → byte l k ≡ 0
+unfolding blank
+blank-all [] e k = refl
+blank-all (x ∷ l) e zero = eqb-true x 0 (and-true _ _ e .0)
+blank-all (x ∷ l) e (suc k) = blank-all l (and-true _ _ e .1) k
+
+all-blank : (l : List ℕ) → ((k : ℕ) → byte l k ≡ 0) → blank l ≡ true
+unfolding blank
+all-blank [] h = refl
+all-blank (x ∷ l) h = both (eq-eqb x 0 (h 0)) (all-blank l (λ k. h (suc k)))
+
+pub blank-byte : (l : List ℕ) (i k : ℕ) → blank (drop i l) ≡ true → i ≤ k → byte l k ≡ 0
+blank-byte l i k e h = let q : k ≡ i + (k - i) = omega arith in ap (byte l) q ∙ sym (getD-drop i l (k - i) 0) ∙ blank-all (drop i l) e (k - i)
+
+pub byte-blank : (l : List ℕ) (i : ℕ) → ((k : ℕ) → i ≤ k → byte l k ≡ 0) → blank (drop i l) ≡ true
+byte-blank l i h = all-blank (drop i l) (λ k. getD-drop i l k 0 ∙ h (i + k) (omega arith))
 
 -- ---- lengths
 pub empty-list : (l : List ℕ) → length l ≡ 0 → l ≡ []

@@ -13,6 +13,11 @@ byte l k = getD l k 0
 pub record AllBytes (l : List ℕ) : Type 0 where
   pub fits : (k : ℕ) → byte l k < 256
 
+-- bytes that are 00h, all of them
+unfoldable pub blank : List ℕ → Bool
+blank [] = true
+blank (x ∷ xs) = x is 0 and blank xs
+
 -- two lists are the same, byte by byte
 unfoldable pub same : List ℕ → List ℕ → Bool
 same [] [] = true

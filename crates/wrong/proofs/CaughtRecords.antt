@@ -8,7 +8,7 @@ use borrow.Author.Tests.{eq-eqb, not-true}
 use Rattle.words.specs.Bytes.{eightAt}
 use Rattle.words.proofs.Choices.{both, no-test}
 use Rattle.words.proofs.Lists.{same-of}
-use Rattle.record.specs.Raw.{rawOf, blank, slotWith, cardWith, slotOf}
+use Rattle.record.specs.Raw.{rawOf, slotWith, cardWith, slotOf}
 use Rattle.frame.specs.declared.Verdict.{Verdict}
 use Rattle.reader.specs.declared.Meant.{Meant}
 use Rattle.reader.specs.Fronts.{frontOf}
@@ -59,7 +59,7 @@ each-raw-refuted k (w ∷ ws) e = let t = none-left k (rawCaught w) (rawUncaught
 
 -- ---- the table
 pub records-caught : rawUncaught 1 wrongRecords ≡ 0
-unfolding rules eightAt rawOf blank slotWith cardWith slotOf frontOf keeping brokenAs rawServed rawExchange rawInsertion rawRemoval selectedSlot image4442
+unfolding rules eightAt rawOf slotWith cardWith slotOf frontOf keeping brokenAs rawServed rawExchange rawInsertion rawRemoval selectedSlot image4442
     transfer rawTests
 records-caught = refl
 

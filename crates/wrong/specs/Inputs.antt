@@ -9,6 +9,7 @@ use Rattle.chips.specs.declared.Chip.the-variants.{Sle4442}
 use Rattle.slot.specs.declared.Slot.{Slot}
 use Rattle.slot.specs.Slots.{inserted, powered, opened}
 use Rattle.vectors.specs.Sessions.{selectedSlot, image4442, image4428, transfer}
+use Rattle.vectors.specs.Plain.{image4418, image4432}
 use Rattle.wrong.specs.Wrong.{Reader, Runner}
 use Rattle.wrong.specs.Caught.{Witness, byMessage, byRun}
 
@@ -24,7 +25,8 @@ shut chip = selectedSlot chip
 abbrev pub wide : Chip → Slot
 wide chip = opened (selectedSlot chip)
 
--- the SLE4442 and the SLE4428 of the starred sessions with full counters; the SLE4442 with its byte 1 protected; an I2C card that is all FFh
+-- the SLE4442 and the SLE4428 of the starred sessions with full counters; each kind with protection bits with its byte 1 protected; an I2C card
+-- that is all FFh
 abbrev pub mem4442 : List ℕ
 mem4442 = image4442 0x07
 
@@ -33,6 +35,15 @@ mem4428 = image4428 0xFF
 
 abbrev pub kept4442 : List ℕ
 kept4442 = set mem4442 256 0xFD
+
+abbrev pub kept4428 : List ℕ
+kept4428 = set mem4428 1024 0xFD
+
+abbrev pub kept4418 : List ℕ
+kept4418 = set image4418 1024 0xFD
+
+abbrev pub kept4432 : List ℕ
+kept4432 = set image4432 256 0xFD
 
 abbrev pub memI2c : List ℕ
 memI2c = replicate 128 0xFF

@@ -7,10 +7,12 @@ pub mod WrongFaults
 pub mod WrongParams
 pub mod WrongSteps
 pub mod WrongCommands
+pub mod WrongPlain
 pub mod Inputs
 pub mod MessageRows
 pub mod CommandRows
 pub mod ParamRows
+pub mod PlainRows
 pub mod Witnesses
 pub mod WrongRecords
 pub mod WrongPrinters

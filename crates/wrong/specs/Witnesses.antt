@@ -9,6 +9,7 @@ use Rattle.slot.specs.Slots.{removed}
 use Rattle.reader.specs.Heard.{heard}
 use Rattle.vectors.specs.Parameters.{setting}
 use Rattle.vectors.specs.Sessions.{lent, selectedSlot, image4442, image4428, transfer}
+use Rattle.vectors.specs.Plain.{image4418, image4432}
 use Rattle.wrong.specs.Caught.{Witness}
 use Rattle.wrong.specs.WrongReaders.{remembering, answersAgain, equalFree}
 use Rattle.wrong.specs.WrongSteps.{storeAround}
@@ -17,6 +18,7 @@ use Rattle.wrong.specs.Inputs.{shut, memI2c, plain, ask, on}
 use Rattle.wrong.specs.MessageRows.{uselessRows, trapRows, buildRows, downRows, insertionRows, removalRows, answerRows, faultRows, powerRows}
 use Rattle.wrong.specs.CommandRows.{stepOrderRows, stepRows1to5, stepRows6, stepRows7, stepRows8to10, wordRows, commandRows, pageRows, codeRows, numberRows, kindRows}
 use Rattle.wrong.specs.ParamRows.{paramRows, fiRows, diRows, goodFiRows, goodDiRows}
+use Rattle.wrong.specs.PlainRows.{plainRows, protectedRows}
 use Rattle.wrong.specs.WrongFaults as faults
 use Rattle.wrong.specs.WrongSteps as steps
 
@@ -67,6 +69,8 @@ wrongReaders =
     ++ codeRows
     ++ numberRows
     ++ kindRows
+    ++ plainRows
+    ++ protectedRows
     ++ slotRows
     ++ typeRows
     ++ selectRows
@@ -78,5 +82,5 @@ wrongReaders =
 
 -- the table and its words at once, for what is proved by computing them
 unfoldable pub witnesses : ℕ
-unfolding ones lent selectedSlot image4442 image4428 transfer setting heard remembering answersAgain equalFree storeAround upToUnequal cutFrom backwards wrongReaders
+unfolding ones lent selectedSlot image4442 image4428 image4418 image4432 transfer setting heard remembering answersAgain equalFree storeAround upToUnequal cutFrom backwards wrongReaders
 witnesses = 0

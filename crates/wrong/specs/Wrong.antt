@@ -161,6 +161,7 @@ placed counter code bits covered f = record {
   bits = bits;
   covered = covered;
   reach = f .reach;
+  zeros = f .zeros;
 }
 
 -- the order that steps 1 to 10 end in is found by `orders`

@@ -2,10 +2,10 @@
 use Prim.Native.Nat.{ℕ, _+_, _-_}
 use mathlib.Core.Bool.{Bool, true, false, not}
 use mathlib.Core.List.{List, [], _∷_, _++_}
-use lib.ListN.{length, take, set, replicate}
+use lib.ListN.{length, take, drop, set, replicate}
 use lib.Dec.{leb, ltb}
 use Rattle.words.specs.Choice.{_⇒_⁏_, _and_, _or_, _means_, _is_, _isnt_}
-use Rattle.words.specs.Bytes.{byte}
+use Rattle.words.specs.Bytes.{byte, blank}
 use Rattle.bits.specs.Bits.{isProtected}
 use Rattle.chips.specs.declared.Known.{Known}
 use Rattle.chips.specs.declared.Known.the-variants.{Is, Unknown}
@@ -49,17 +49,20 @@ counterFits f image = leb (byte image (f .counter)) (f .full)
 abbrev pub ownBitFits : Facts → List ℕ → Bool
 ownBitFits f image = not (isProtected (f .bits) (f .covered) image (f .counter))
 
+abbrev pub zerosFit : Facts → List ℕ → Bool
+zerosFit f image = blank (drop (f .zeros) image)
+
 -- takes an image of another length
 abbrev pub anyLength : Reader
-anyLength = taking λ f image. counterFits f image and ownBitFits f image
+anyLength = taking λ f image. counterFits f image and ownBitFits f image and zerosFit f image
 
 -- takes a 4442 counter above 07h
 abbrev pub anyCounter : Reader
-anyCounter = taking λ f image. sizeFits f image and ownBitFits f image
+anyCounter = taking λ f image. sizeFits f image and ownBitFits f image and zerosFit f image
 
 -- takes a 4428 whose bit for 3FDh is 0
 abbrev pub anyOwnBit : Reader
-anyOwnBit = taking λ f image. sizeFits f image and counterFits f image
+anyOwnBit = taking λ f image. sizeFits f image and counterFits f image and zerosFit f image
 
 -- looks at the image where there is no card, and turns one that is not empty down
 abbrev pub looksAtNothing : Reader
@@ -203,15 +206,15 @@ dropsKind k s kind image = insertion s (kind is k ⇒ 0 ⁏ kind) image
 
 -- inserts an image of another length
 abbrev pub insertsAnyLength : Inserter
-insertsAnyLength = insertsBy λ f image. counterFits f image and ownBitFits f image
+insertsAnyLength = insertsBy λ f image. counterFits f image and ownBitFits f image and zerosFit f image
 
 -- inserts a 4442 whose counter is above 07h
 abbrev pub insertsAnyCounter : Inserter
-insertsAnyCounter = insertsBy λ f image. sizeFits f image and ownBitFits f image
+insertsAnyCounter = insertsBy λ f image. sizeFits f image and ownBitFits f image and zerosFit f image
 
 -- inserts a 4428 whose bit for 3FDh is 0
 abbrev pub insertsAnyOwnBit : Inserter
-insertsAnyOwnBit = insertsBy λ f image. sizeFits f image and counterFits f image
+insertsAnyOwnBit = insertsBy λ f image. sizeFits f image and counterFits f image and zerosFit f image
 
 -- ---- insertion: what it gives
 -- powers the card at its insertion

@@ -254,7 +254,7 @@ readsNeedOpen = barring Status.Denied λ f s image d. f .coded and byte d 1 is 0
 
 -- writes an I2C card only while it is open, which it never is
 abbrev pub i2cNeedsOpen : Reader
-i2cNeedsOpen = barring Status.Denied λ f s image d. not (f .coded) and byte d 1 is 0xD0 and not (s .«open»)
+i2cNeedsOpen = barring Status.Denied λ f s image d. f .page isnt 0 and byte d 1 is 0xD0 and not (s .«open»)
 
 -- ---- step 10
 -- the protection bytes of an image

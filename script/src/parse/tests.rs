@@ -120,7 +120,16 @@ fn sequence_and_slot() {
 
 #[test]
 fn select_alone_takes_the_type_of_the_last_card() {
-    for (card, own) in [("i2c1", 1), ("i2c16", 1), ("i2c32", 2), ("i2c256", 2), ("sle4428", 5), ("sle4442", 6)] {
+    for (card, own) in [
+        ("i2c1", 1),
+        ("i2c16", 1),
+        ("i2c32", 2),
+        ("i2c256", 2),
+        ("sle4428", 5),
+        ("sle4418", 5),
+        ("sle4442", 6),
+        ("sle4432", 6),
+    ] {
         let records = records(&format!("insert i2c64\ninsert {}\nselect", card));
         assert_eq!(records[2].last(), Some(&own), "{}", card);
     }
@@ -140,7 +149,9 @@ fn cards_by_name_and_by_number() {
         ("i2c128", 8, 16384),
         ("i2c256", 9, 32768),
         ("sle4428", 20, 1152),
+        ("sle4418", 21, 1152),
         ("sle4442", 30, 264),
+        ("sle4432", 31, 264),
     ];
     for (name, number, length) in cards {
         let inserted = body(&format!("insert {}", name));
@@ -168,6 +179,24 @@ fn images() {
     assert_eq!(image("insert i2c1 fill 5A short 3"), [0x5a; 125]);
     assert_eq!(image("insert i2c1 fill 5A long 2")[126..], [0x5a, 0x5a, 0, 0]);
     assert_eq!(image("insert sle4442 fill 00 image 01 02"), [1, 2]);
+}
+
+#[test]
+fn images_without_a_code() {
+    let plain = image("insert sle4418");
+    assert_eq!(plain, [0xff; 1152]);
+    let card = image("insert sle4418 fill 5C at 03FD 7F AA BB protected 0000,03FD..03FF");
+    assert_eq!(card[0x3fc..0x400], [0x5c, 0x7f, 0xaa, 0xbb]);
+    assert_eq!((card[0x400], card[0x47f]), (0xfe, 0x1f));
+    assert_eq!(card[0x401..0x47f], [0xff; 126]);
+    let plain = image("insert sle4432");
+    assert_eq!(plain[..260], [0xff; 260]);
+    assert_eq!(plain[260..], [0; 4]);
+    let card = image("insert sle4432 fill 5C memory A2 13 at 00FF 77 protected 0000..0002,001F");
+    assert_eq!(card[..4], [0xa2, 0x13, 0x5c, 0x5c]);
+    assert_eq!(card[254..], [0x5c, 0x77, 0xf8, 0xff, 0xff, 0x7f, 0, 0, 0, 0]);
+    // An image that is none of an SLE4432's.
+    assert_eq!(image("insert sle4432 image FF*260 00*3 01")[260..], [0, 0, 0, 1]);
 }
 
 #[test]
@@ -206,7 +235,17 @@ fn faults_name_their_line() {
         ("insert kind 256", "'256' is no kind from 0 to 255"),
         ("insert kind 77 fill 00", "an unknown kind has the option 'image' alone"),
         ("insert i2c1 page 8", "'page' is no option of insert"),
-        ("insert i2c1 counter 07", "I2C of 1 kbit has no counter, no code and no protection bits"),
+        ("insert i2c1 counter 07", "I2C of 1 kbit has no code and no counter"),
+        ("insert i2c1 protected 0000", "byte 0000 of I2C of 1 kbit has no protection bit"),
+        ("insert sle4418 code AABB", "SLE4418 has no code and no counter"),
+        ("insert sle4418 counter FF", "SLE4418 has no code and no counter"),
+        ("insert sle4418 protected 0400", "byte 0400 of SLE4418 has no protection bit"),
+        ("insert sle4418 at 03FF 01 02", "memory bytes at 03FF pass the 1024 bytes of SLE4418"),
+        ("insert sle4432 code 112233", "SLE4432 has no code and no counter"),
+        ("insert kind 31 counter 00", "SLE4432 has no code and no counter"),
+        ("insert sle4432 counter 00 image 00*264", "SLE4432 has no code and no counter"),
+        ("insert sle4432 protected 0020", "byte 0020 of SLE4432 has no protection bit"),
+        ("insert sle4432 at 0104 01", "memory bytes at 0104 pass the 256 bytes of SLE4432"),
         ("insert sle4442 code 1122", "the code of SLE4442 has 3 bytes, and these are 2"),
         ("insert sle4442 code", "bytes in hex are missing after 'code'"),
         ("insert sle4442 counter", "something is missing after 'counter'"),

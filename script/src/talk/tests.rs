@@ -86,6 +86,11 @@ fn lines_in_words() {
         (Record::Message(vec![0x65]), "msg 2", "msg 2, turned down: the message is under 10 bytes"),
         (Record::Insert { told: "a card".to_string(), body: vec![1] }, "in 0", "in 0, the card is in"),
         (
+            Record::Insert { told: "a card".to_string(), body: vec![31] },
+            "in 3",
+            "in 3, turned down: the kind is unknown, or the image is not one of it",
+        ),
+        (
             Record::Insert { told: "a card".to_string(), body: vec![1] },
             "in 5",
             "in 5, turned down: a card is in already",

@@ -154,10 +154,14 @@ fn status_words() {
         ("69 85", "no type is selected"),
         ("6B 00", "wrong place: P1P2, or the range that it begins"),
         ("6A 80", "wrong value: the type, or the page code"),
-        ("69 82", "not allowed: the card is closed, or a byte is protected"),
+        ("69 82", "not allowed: a code card is closed, or a byte is protected"),
         ("69 83", "no status word of the paper"),
     ] {
         assert_eq!(told("word", "FF B0 00 00 01", word), Some(format!("{} {}", word, text)));
+    }
+    // A card without a code: what would be asked of a code card is no command of it.
+    for apdu in ["FF 20 00 00 02 01 02", "FF 20 00 00 03 01 02 03", "FF B1 00 00 03", "FF D2 00 01 03 01 02 03"] {
+        assert_eq!(told("word", apdu, "6D 00").as_deref(), Some("6D 00 no such command here"), "{}", apdu);
     }
     let codes = [("FF 20 00 00 03 01 02 03", "90 07"), ("FF 20 00 00 02 01 02", "90 FF")];
     let open = [

@@ -124,7 +124,9 @@ impl Tests {
             self.whole(&format!("insert of kind {}", kind), &records, &["in 0", INACTIVE]);
         }
         self.whole("insert of kind 20", &[insert(20, &sle4428()), status(0)], &["in 0", INACTIVE]);
+        self.whole("insert of kind 21", &[insert(21, &sle4428()), status(0)], &["in 0", INACTIVE]);
         self.whole("insert of kind 30", &[insert(30, &sle4442(0)), status(0)], &["in 0", INACTIVE]);
+        self.whole("insert of kind 31", &[insert(31, &[0; 264]), status(0)], &["in 0", INACTIVE]);
 
         let none = whole(INSERT, &[]);
         self.whole("an empty insert body without a card", &[none.clone(), status(0)], &["in 3", EMPTY]);
@@ -140,6 +142,13 @@ impl Tests {
         let mut bit = sle4428();
         bit[1024 + 127] = 0xdf;
         self.whole("a 4428 bit for 3FDh that is 0", &[insert(20, &bit), status(0)], &["in 3", EMPTY]);
+        self.whole("a 4418 bit for 3FDh that is 0", &[insert(21, &bit), status(0)], &["in 0", INACTIVE]);
+        for place in 260..264 {
+            let mut last = vec![0; 264];
+            last[place] = 1;
+            let name = format!("a 4432 byte {} that is not 00h", place);
+            self.whole(&name, &[insert(31, &last), status(0)], &["in 3", EMPTY]);
+        }
         let records = [insert(30, &sle4442(0xa5)), insert(30, &sle4442(0xb6)), power_on(0)];
         let wanted = ["in 0", "in 5", "msg 0 800600000000000000003b04a5a5a5a5"];
         self.whole("the card that is in stays in", &records, &wanted);

@@ -1,8 +1,15 @@
 //! Cards that go in, and cards that do not.
 
-use super::Maker;
+use super::{chip_of, Maker};
 use crate::case::LONGEST_IMAGE;
-use crate::reader::{Chip, CHIPS};
+use crate::reader::Chip;
+
+/// The last four bytes of a 4432, and what is wrong where one is not 00h.
+#[rustfmt::skip]
+const LAST_FOUR: [(usize, &str); 4] = [
+    (260, "4432 byte 260 not 00h"), (261, "4432 byte 261 not 00h"),
+    (262, "4432 byte 262 not 00h"), (263, "4432 byte 263 not 00h"),
+];
 
 impl Maker {
     /// An image that fits: odd counters and protection bits, but for the rest any bytes.
@@ -13,15 +20,9 @@ impl Maker {
             1 => (0..chip.image).map(|k| k as u8).collect(),
             _ => rng.bytes(chip.image),
         };
-        if !chip.has_code() {
+        if !chip.has_bits() {
             return image;
         }
-        let code = match rng.below(4) {
-            0 => vec![0xff; chip.code.len()],
-            1 => vec![0x00; chip.code.len()],
-            _ => rng.bytes(chip.code.len()),
-        };
-        image[chip.code.clone()].copy_from_slice(&code);
         let bits = chip.protection..chip.protection + chip.protectable / 8;
         match rng.below(8) {
             0 => image[bits].fill(0x00),
@@ -37,12 +38,22 @@ impl Maker {
                     let byte = bits.start + rng.below(bits.len());
                     image[byte] &= !(1 << rng.below(8));
                 }
-                // The code of a 4428 may be protected already.
-                if rng.chance(15) {
-                    image[bits.end - 1] &= rng.pick(&[0x3f, 0x7f, 0xbf]);
+                // The code of a 4428 may be protected already, and the same bytes of a 4418.
+                if rng.chance(if chip.has_code() { 15 } else { 50 }) {
+                    image[bits.end - 1] &= rng.pick(&[0x1f, 0x3f, 0x5f, 0x7f, 0x9f, 0xbf, 0xdf]);
                 }
             }
         }
+        image[chip.zeros.clone()].fill(0x00);
+        if !chip.has_code() {
+            return image;
+        }
+        let code = match rng.below(4) {
+            0 => vec![0xff; chip.code.len()],
+            1 => vec![0x00; chip.code.len()],
+            _ => rng.bytes(chip.code.len()),
+        };
+        image[chip.code.clone()].copy_from_slice(&code);
         // Half of the counters are full, the others have any number of tries left, in any bits.
         image[chip.counter] = chip.full;
         if rng.chance(50) {
@@ -59,9 +70,10 @@ impl Maker {
 
     /// A kind and an image that do not go in, and why.
     pub(super) fn bad_card(&mut self) -> (u8, Vec<u8>, &'static str) {
-        let (chip, which) = match self.rng.below(5) {
-            3 => (&CHIPS[10], 3),
-            4 => (&CHIPS[9], 4),
+        let (chip, which) = match self.rng.below(6) {
+            3 => (chip_of(30), 3),
+            4 => (chip_of(20), 4),
+            5 => (chip_of(31), 5),
             which => (self.any_chip(), which),
         };
         let (mut kind, mut image) = (chip.kind, self.image(chip));
@@ -69,7 +81,7 @@ impl Maker {
             0 => {
                 kind = loop {
                     let kind =
-                        if self.rng.chance(50) { self.rng.byte() } else { self.rng.pick(&[0, 10, 19, 21, 29, 31]) };
+                        if self.rng.chance(50) { self.rng.byte() } else { self.rng.pick(&[0, 10, 19, 22, 29, 32]) };
                     if Chip::of(kind).is_none() {
                         break kind;
                     }
@@ -92,9 +104,14 @@ impl Maker {
                 image[chip.counter] = self.rng.pick(&[0x08, 0x0f, 0x10, 0x80, 0xff]);
                 "4442 counter above 07h"
             }
-            _ => {
+            4 => {
                 image[chip.protection + chip.counter / 8] &= !(1 << (chip.counter % 8));
                 "4428 bit for 3FDh is 0"
+            }
+            _ => {
+                let (place, why) = self.rng.pick(&LAST_FOUR);
+                image[place] = self.rng.pick(&[0x01, 0x07, 0x80, 0xff]);
+                why
             }
         };
         (kind, image, why)

@@ -21,7 +21,7 @@ pub const CASE_ENDINGS: [&str; 10] = [
 ];
 
 /// What makes a record unsound; each is tried on its own.
-pub const RECORD_FAULTS: [&str; 14] = [
+pub const RECORD_FAULTS: [&str; 16] = [
     "page no page",
     "no card but active",
     "no card but page 16",
@@ -31,6 +31,8 @@ pub const RECORD_FAULTS: [&str; 14] = [
     "inactive but open",
     "a type not the kind's",
     "open but an I2C card",
+    "open but kind 21",
+    "open but kind 31",
     "open but no type",
     "open but the counter not full",
     "byte 1 neither 0 nor 1",
@@ -200,6 +202,16 @@ impl Maker {
             "open but an I2C card" => {
                 let kind = 1 + self.rng.below(9) as u8;
                 other_card(self, kind);
+                slot.open = true;
+            }
+            // 3FDh is as a full counter would be.
+            "open but kind 21" => {
+                other_card(self, 21);
+                case.image[0x3fd] = 0xff;
+                slot.open = true;
+            }
+            "open but kind 31" => {
+                other_card(self, 31);
                 slot.open = true;
             }
             "open but no type" => {

@@ -19,8 +19,11 @@ const ON_CLOSED: [(usize, u8); 8] =
 #[rustfmt::skip]
 const ON_OPEN: [(usize, u8); 8] =
     [(3, 0xa4), (23, 0xb0), (5, 0xb1), (8, 0xb2), (32, 0xd0), (14, 0xd1), (6, 0x20), (9, 0xd2)];
+#[rustfmt::skip]
+const ON_WITHOUT_CODE: [(usize, u8); 8] =
+    [(4, 0xa4), (24, 0xb0), (5, 0xb1), (11, 0xb2), (28, 0xd0), (18, 0xd1), (5, 0x20), (5, 0xd2)];
 
-/// Places and lengths around the counter and the code of a 4428.
+/// Places and lengths around the counter and the code of a 4428, and the same bytes of a 4418.
 #[rustfmt::skip]
 const NEAR_CODE: [(usize, usize); 10] = [
     (0x3fe, 2), (0x3fe, 2), (0x3fe, 1), (0x3ff, 1), (0x3fd, 1), (0x3fd, 3), (0x3fc, 1), (0x3fc, 2), (0x3fb, 5), (0x3fe, 3),
@@ -30,6 +33,7 @@ impl Maker {
     /// The data of a 6Fh: mostly a command of the present type, in its right form.
     pub(super) fn apdu(&mut self) -> Vec<u8> {
         let own = self.chip().map_or(0x06, |chip| chip.select);
+        let without_code = self.chip().map_or(false, |chip| chip.has_bits() && !chip.has_code());
         let slot = &self.reader.slot;
         let ins = if slot.active && slot.selected == 0 && self.rng.chance(60) {
             0xa4
@@ -38,6 +42,7 @@ impl Maker {
         } else {
             match (own, self.reader.slot.open) {
                 (0x01 | 0x02, _) => self.rng.weighed(&ON_I2C),
+                _ if without_code => self.rng.weighed(&ON_WITHOUT_CODE),
                 (_, false) => self.rng.weighed(&ON_CLOSED),
                 (_, true) => self.rng.weighed(&ON_OPEN),
             }
@@ -50,11 +55,13 @@ impl Maker {
             _ => own,
         };
         let mut apdu = self.command(ins, form);
-        // Commands that have but one right form are spoiled more often.
+        // Commands that have but one right form are spoiled more often, and most those that a card
+        // without a code lacks, whatever their length.
         let percent = match ins {
-            0xa4 => 24,
-            0x01 | 0xb1 | 0xb2 | 0xd2 => 16,
-            _ => 12,
+            0xa4 => 40,
+            0xb1 | 0x20 | 0xd2 if without_code => 60,
+            0x01 | 0xb1 | 0xb2 | 0xd2 => 20,
+            _ => 14,
         };
         if self.rng.chance(percent) {
             self.spoil(&mut apdu);
@@ -107,12 +114,17 @@ impl Maker {
             (0xb2, _) => plain(0, 4),
             (0xd0, _) => {
                 let (place, count) =
-                    if own == 0x05 && self.rng.chance(25) { self.rng.pick(&NEAR_CODE) } else { self.span(memory) };
+                    if own == 0x05 && self.rng.chance(35) { self.rng.pick(&NEAR_CODE) } else { self.span(memory) };
                 let data = if self.rng.chance(15) { self.stored(place, count) } else { self.rng.bytes(count) };
                 brought(place, data)
             }
             (0xd1, _) => {
-                let (place, count) = self.span(if form == 0x05 { 0x3fd } else { 32 });
+                let (place, count) = match (form, self.reader.slot.kind) {
+                    (0x05, 21) if self.rng.chance(35) => self.rng.pick(&NEAR_CODE),
+                    (0x05, 21) => self.span(0x400),
+                    (0x05, _) => self.span(0x3fd),
+                    _ => self.span(32),
+                };
                 let mut data = self.stored(place, count);
                 // Some bytes differ from the stored ones, and are passed over.
                 for _ in 0..self.rng.below(3) {

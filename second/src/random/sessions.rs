@@ -1,6 +1,6 @@
 //! Sessions: cards that go in and out, messages, and what ends a session.
 
-use super::{Maker, Rng, Stream};
+use super::{chip_of, Maker, Rng, Stream};
 use crate::case::LONGEST_IMAGE;
 use crate::count::{self, Count};
 use crate::record::{whole, Record};
@@ -65,7 +65,12 @@ impl Making<'_> {
         };
         let line = line.unwrap_or_else(|| "bad".to_string());
         match &record {
-            Record::Insert(_) if line == "in 0" => self.count.add(format!("in 0: kind {}", reader.slot.kind)),
+            Record::Insert(_) if line == "in 0" => {
+                self.count.add(format!("in 0: kind {}", reader.slot.kind));
+                if reader.slot.kind == 21 && chip_of(21).protected(&reader.image, 0x3fd) {
+                    self.count.add("in 0: kind 21, bit for 3FDh is 0".to_string());
+                }
+            }
             Record::Remove => {
                 self.count.add(format!("{}: {}", line, if before.kind == 0 { "no card" } else { "a card" }))
             }
@@ -213,7 +218,9 @@ impl Making<'_> {
                 }
             }
             0x06 => {
-                self.command(&[0xff, 0xb1, 0x00, 0x00, 4]);
+                if chip.has_code() {
+                    self.command(&[0xff, 0xb1, 0x00, 0x00, 4]);
+                }
                 self.command(&[0xff, 0xb2, 0x00, 0x00, 4]);
             }
             _ => {}

@@ -1,6 +1,7 @@
 //! The second program's own tests: answers worked out by hand from the paper.
 
 mod parameters;
+mod without_code;
 
 use second::case::Case;
 use second::parameters::Parameters;
@@ -23,7 +24,7 @@ impl Host {
         let own = match kind {
             1..=5 => "01",
             6..=9 => "02",
-            20 => "05",
+            20 | 21 => "05",
             _ => "06",
         };
         assert_eq!(host.send(&format!("FF A4 00 00 01 {}", own)), "9000");
@@ -538,7 +539,9 @@ fn the_longest_answer() {
 #[test]
 fn insertions() {
     let mut host = Host::new();
-    for (kind, length) in [(0, 0), (10, 128), (31, 264), (1, 127), (1, 129), (9, 32767), (20, 1151), (30, 265)] {
+    for (kind, length) in
+        [(0, 0), (10, 128), (22, 1152), (32, 264), (1, 127), (1, 129), (9, 32767), (20, 1151), (30, 265)]
+    {
         assert_eq!(host.insert(kind, &vec![0xff; length]), "in 3", "{}", kind);
     }
     assert_eq!(host.insert(30, &sle4442(8)), "in 3");
@@ -588,7 +591,7 @@ fn turned_down_messages_keep_every_byte() {
     assert_eq!(try_it(&odd, &sle4442(7), &status, 271), Err(4));
     assert_eq!(try_it(&sound, &sle4442(7), &status, 271), Ok(10));
     assert_eq!(try_it(&sound, &sle4442(8), &status, 271), Err(3));
-    assert_eq!(try_it(&Slot { kind: 31, ..sound.clone() }, &sle4442(7), &status, 271), Err(3));
+    assert_eq!(try_it(&Slot { kind: 32, ..sound.clone() }, &sle4442(7), &status, 271), Err(3));
     assert_eq!(try_it(&sound, &sle4442(5), &status, 271), Err(4));
     assert_eq!(try_it(&Slot { open: false, ..sound.clone() }, &sle4442(5), &status, 271), Ok(10));
     assert_eq!(try_it(&Slot { selected: 0, ..sound.clone() }, &sle4442(7), &status, 271), Err(4));
@@ -615,7 +618,7 @@ fn any_bytes_at_all() {
     let sizes = [0, 128, 256, 512, 1024, 2048, 1152, 264, 263, 265];
     for _ in 0..300_000 {
         let mut slot = Slot {
-            kind: [0, 1, 2, 3, 4, 5, 20, 30, 30, next(256) as u8][next(10)],
+            kind: [0, 1, 2, 3, 4, 5, 20, 21, 30, 30, 31, next(256) as u8][next(12)],
             active: next(4) > 0,
             selected: [0, 1, 2, 5, 6, 6, next(256) as u8][next(7)],
             page: [8, 16, 32, 64, 128, 0, next(256) as u8][next(7)],
@@ -626,8 +629,11 @@ fn any_bytes_at_all() {
             slot.parameters = Parameters { protocol: next(3) as u8, bytes: vec![0x11; next(9)] };
         }
         let mut image = vec![next(256) as u8; sizes[next(10)]];
-        if image.len() > 261 {
+        if image.len() > 263 {
             image[260] = 7;
+            if slot.kind == 31 && next(4) > 0 {
+                image[260..264].fill(0);
+            }
         }
         let mut message: Vec<u8> = (0..next(40)).map(|_| next(256) as u8).collect();
         if message.len() >= 16 {

@@ -56,20 +56,30 @@ returns-12 c = sym (ap chipOf (c .match .keys12))
 
 returns-13 : tie.Need-returns-13
 unfolding chipOf chipAmong _⇒_⁏_
-returns-13 c =
+returns-13 c = sym (ap chipOf (c .match .keys13))
+
+returns-14 : tie.Need-returns-14
+unfolding chipOf chipAmong _⇒_⁏_
+returns-14 c = sym (ap chipOf (c .match .keys14))
+
+returns-15 : tie.Need-returns-15
+unfolding chipOf chipAmong _⇒_⁏_
+returns-15 c =
     let r = c .match .rest in
     simp (
-      ne-eqb _ 1 (r .0 .0 .0 .0 .0 .0 .0 .0 .0 .0 .0 .1),
-      ne-eqb _ 2 (r .0 .0 .0 .0 .0 .0 .0 .0 .0 .0 .1),
-      ne-eqb _ 3 (r .0 .0 .0 .0 .0 .0 .0 .0 .0 .1),
-      ne-eqb _ 4 (r .0 .0 .0 .0 .0 .0 .0 .0 .1),
-      ne-eqb _ 5 (r .0 .0 .0 .0 .0 .0 .0 .1),
-      ne-eqb _ 6 (r .0 .0 .0 .0 .0 .0 .1),
-      ne-eqb _ 7 (r .0 .0 .0 .0 .0 .1),
-      ne-eqb _ 8 (r .0 .0 .0 .0 .1),
-      ne-eqb _ 9 (r .0 .0 .0 .1),
-      ne-eqb _ 20 (r .0 .0 .1),
-      ne-eqb _ 30 (r .0 .1),
+      ne-eqb _ 1 (r .0 .0 .0 .0 .0 .0 .0 .0 .0 .0 .0 .0 .0 .1),
+      ne-eqb _ 2 (r .0 .0 .0 .0 .0 .0 .0 .0 .0 .0 .0 .0 .1),
+      ne-eqb _ 3 (r .0 .0 .0 .0 .0 .0 .0 .0 .0 .0 .0 .1),
+      ne-eqb _ 4 (r .0 .0 .0 .0 .0 .0 .0 .0 .0 .0 .1),
+      ne-eqb _ 5 (r .0 .0 .0 .0 .0 .0 .0 .0 .0 .1),
+      ne-eqb _ 6 (r .0 .0 .0 .0 .0 .0 .0 .0 .1),
+      ne-eqb _ 7 (r .0 .0 .0 .0 .0 .0 .0 .1),
+      ne-eqb _ 8 (r .0 .0 .0 .0 .0 .0 .1),
+      ne-eqb _ 9 (r .0 .0 .0 .0 .0 .1),
+      ne-eqb _ 20 (r .0 .0 .0 .0 .1),
+      ne-eqb _ 21 (r .0 .0 .0 .1),
+      ne-eqb _ 30 (r .0 .0 .1),
+      ne-eqb _ 31 (r .0 .1),
     )
 
 pub chip-of-spec : {M : Type 1} → statement M
@@ -88,4 +98,6 @@ chip-of-spec =
     returns-10
     returns-11
     returns-12
-    returns-13)
+    returns-13
+    returns-14
+    returns-15)

@@ -65,6 +65,12 @@ enum-told-10 c = search needs
 enum-told-11 : tie.Need-enum-told-11
 enum-told-11 c = search needs
 
+enum-told-12 : tie.Need-enum-told-12
+enum-told-12 c = search needs
+
+enum-told-13 : tie.Need-enum-told-13
+enum-told-13 c = search needs
+
 returns : tie.Need-returns
 returns c = c .i2c-row .ensures ∙ sym (ap facts (c .before .enum-told .given .1))
 
@@ -98,6 +104,12 @@ returns-10 c = sym (ap facts (c .enum-told10 .given .1))
 returns-11 : tie.Need-returns-11
 returns-11 c = sym (ap facts (c .enum-told11 .given .1))
 
+returns-12 : tie.Need-returns-12
+returns-12 c = sym (ap facts (c .enum-told12 .given .1))
+
+returns-13 : tie.Need-returns-13
+returns-13 c = sym (ap facts (c .enum-told13 .given .1))
+
 pub facts-spec : {M : Type 1} → statement M
 facts-spec =
     tie.close
@@ -122,6 +134,8 @@ facts-spec =
     i2c-row-requires-9
     enum-told-10
     enum-told-11
+    enum-told-12
+    enum-told-13
     returns
     returns-2
     returns-3
@@ -132,4 +146,6 @@ facts-spec =
     returns-8
     returns-9
     returns-10
-    returns-11)
+    returns-11
+    returns-12
+    returns-13)

@@ -1,0 +1,173 @@
+-- What an order leaves of protected bytes, over every kind of card with protection bits: a protected byte keeps its value, and a byte is
+-- protected afterwards where it was before and where the order is a D1 that carries its value.
+use mathlib.Core.Path.{_≡_, refl, sym, ap, _∙_}
+use mathlib.Core.List.{List}
+use mathlib.Core.Bool.{Bool, true, false}
+use mathlib.Core.Logic.{_⊎_, inl, inr, _≢_}
+use Prim.Native.Nat.{ℕ, _+_, _/_, _≤_, _<_}
+use native.Mathlib.Omega.{arith}
+use lib.ListN.{length}
+use lib.Seq.{sets}
+use lib.Dec.{leb, ltb}
+use borrow.Author.Tests.{leb-true, leb-false, ltb-true, ltb-false}
+use Rattle.words.specs.Choice.{_or_}
+use Rattle.words.specs.Bytes.{byte}
+use Rattle.words.proofs.Choices.{no-test, or-end}
+use Rattle.words.proofs.Lists.{byte-sets}
+use Rattle.chips.specs.declared.Chip.{Chip}
+use Rattle.chips.specs.declared.Facts.{Facts}
+use Rattle.chips.specs.Kinds.{facts}
+use Rattle.chips.proofs.KindLaws.{Clear, Bitted, bitted, laid}
+use Rattle.bits.specs.Bits.{carries, isProtected, firstProtected}
+use Rattle.bits.specs.declared.Place.{Place}
+use Rattle.bits.specs.declared.Place.the-variants.{At, Nowhere}
+use Rattle.bits.proofs.ProtectionLaws.{protected-beyond, first-free, byte-protectEqual}
+use Rattle.bits.proofs.BitLaws.{bit-same, protected-same, protected-equal, carries-before}
+use Rattle.card.proofs.ImageLaws.{IsCard}
+use Rattle.codes.proofs.CodeLaws.{byte-presenting}
+use Rattle.slot.specs.declared.Slot.{Slot}
+use Rattle.steps.specs.declared.Order.{Order}
+use Rattle.steps.specs.Steps.{Ins, Select, Page, Read, Counter, Bits, Write, Protect, Present, Change, Other, place, p3, body, found, ordered, order}
+use Rattle.steps.specs.Fits.{Fit}
+use Rattle.steps.proofs.Decisions.{Passed, Decided, refused, through, decided, fit-decided, order-fits}
+use Rattle.orders.specs.Orders.{imageBy, carriesBy}
+use Rattle.orders.proofs.ImageKept.{written-sets}
+
+-- a search that found none ended nowhere
+found-none : (p : Place) → found p ≡ false → p ≡ Nowhere
+found-none (At k) e = cc
+found-none Nowhere e = refl
+
+module _ (chip : Chip) (s : Slot) (image : List ℕ) (k : ℕ) where
+  abbrev f : Facts
+  f = facts chip
+
+  abbrev guarded : List ℕ → Bool
+  guarded l = isProtected (f .bits) (f .covered) l k
+
+  -- a byte has a bit where it is protected
+  covered-by : guarded image ≡ true → k < f .covered
+  covered-by e = go (ltb k (f .covered)) refl
+    where
+      go : (b : Bool) → ltb k (f .covered) ≡ b → k < f .covered
+      go true h = ltb-true _ _ h
+      go false h = no-test e (protected-beyond (f .bits) (f .covered) image k (ltb-false _ _ h))
+
+  -- ---- the value
+  module _ (c : IsCard f image) (e : guarded image ≡ true) where
+    with-bits : Bitted f
+    with-bits = bitted chip (omega (arith, covered-by e))
+
+    -- no byte of the range of a D0 that is let through is protected
+    outside : (at n : ℕ) → found (firstProtected (f .bits) (f .covered) image at n) ≡ false → (k < at) ⊎ (at + n ≤ k)
+    outside at n h = go (leb at k) refl (ltb k (at + n)) refl
+      where
+        go : (a : Bool) → leb at k ≡ a → (b : Bool) → ltb k (at + n) ≡ b → (k < at) ⊎ (at + n ≤ k)
+        go false l b r = inl (leb-false _ _ l)
+        go true l false r = inr (ltb-false _ _ r)
+        go true l true r = no-test e (first-free (f .bits) (f .covered) image at n k (found-none _ h) (leb-true _ _ l) (ltb-true _ _ r))
+
+    -- the counter is not protected
+    no-counter : k ≢ f .counter
+    no-counter q = no-test e (ap (isProtected (f .bits) (f .covered) image) q ∙ c .bare)
+
+    value-passed : (d : List ℕ) (i : Ins) → Passed f s image d i → Fit f (body d) (ordered i (place d) (p3 d) (byte d 5))
+        → byte (imageBy f s image (body d) (ordered i (place d) (p3 d) (byte d 5))) k ≡ byte image k
+    unfolding imageBy
+    value-passed d Select p h = refl
+    value-passed d Page p h = refl
+    value-passed d Read p h = refl
+    value-passed d Counter p h = refl
+    value-passed d Bits p h = refl
+    value-passed d Write p h =
+        ap (λ (l : List ℕ). byte l k) (written-sets f s image (body d) (with-bits .pageless) (s .page) (place d))
+        ∙ byte-sets image (place d) (body d) k (go (outside (place d) (p3 d) (p .free)))
+      where
+        go : (k < place d) ⊎ (place d + p3 d ≤ k) → (k < place d) ⊎ (place d + length (body d) ≤ k)
+        go (inl l) = inl l
+        go (inr l) = inr (omega (arith, lib.ListN.length-drop 5 d, p .long))
+    value-passed d Protect p h =
+        byte-protectEqual (f .bits) (f .covered) image (place d) (body d) k (inl (omega (arith, covered-by e, laid chip .kept, with-bits .behind)))
+    value-passed d Present p h = byte-presenting (f .counter) (f .full) (f .code) (f .digits) image (body d) k no-counter
+    value-passed d Change p h = byte-sets image (f .code) (body d) k (inl (omega (arith, covered-by e, with-bits .past (p .had))))
+    value-passed d Other p h = refl
+
+    value-decided : (d : List ℕ) {o : Order} → Decided f s image d o → byte (imageBy f s image (body d) o) k ≡ byte image k
+    unfolding imageBy
+    value-decided d (refused status) = refl
+    value-decided d (through i p) = value-passed d i p (fit-decided f s image d (through i p))
+
+    -- a protected byte keeps its value
+    pub value-kept : (d : List ℕ) → byte (imageBy f s image (body d) (order f s image d)) k ≡ byte image k
+    value-kept d = value-decided d (decided f s image d)
+
+  -- ---- being protected
+  module _ (c : IsCard f image) where
+    -- what leaves the byte that the bit stands in leaves it protected or not
+    bit-stays : (image′ : List ℕ) → byte image′ (f .bits + k / 8) ≡ byte image (f .bits + k / 8) → guarded image′ ≡ (guarded image or false)
+    bit-stays image′ h = protected-same (f .bits) (f .covered) image image′ k (bit-same (f .bits) (f .covered) image image′ k h) ∙ sym (or-end _)
+
+    module _ (h : k < f .covered) where
+      has-bits : Bitted f
+      has-bits = bitted chip (omega arith)
+
+      -- n bytes from a place on that stand clear of the protection bytes leave its bit
+      clear-of : (at n : ℕ) → Clear at n (f .covered) f → (f .bits + k / 8 < at) ⊎ (at + n ≤ f .bits + k / 8)
+      clear-of at n (inl l) = inr (omega arith)
+      clear-of at n (inr l) = inl (omega arith)
+
+      protected-order : (b : List ℕ) (o : Order) → Fit f b o → guarded (imageBy f s image b o) ≡ (guarded image or carriesBy image b k o)
+      unfolding imageBy
+      protected-order b (Order.Refuse status) w = sym (or-end _)
+      protected-order b Order.Select w = sym (or-end _)
+      protected-order b (Order.Page p) w = sym (or-end _)
+      protected-order b (Order.Read at n) w = sym (or-end _)
+      protected-order b (Order.Counter n) w = sym (or-end _)
+      protected-order b (Order.Bits at n) w = sym (or-end _)
+      protected-order b (Order.Write at) w =
+          ap guarded (written-sets f s image b (has-bits .pageless) (s .page) at)
+          ∙ bit-stays (sets image at b) (byte-sets image at b (f .bits + k / 8) (inr (omega (arith, w .0, has-bits .behind))))
+      protected-order b (Order.Protect at) w =
+          protected-equal (f .bits) (f .covered) k h (omega (arith, laid chip .kept, has-bits .behind)) image at b (omega (arith, laid chip .guards, c .long))
+      protected-order b Order.Present w =
+          bit-stays _ (byte-presenting (f .counter) (f .full) (f .code) (f .digits) image b (f .bits + k / 8) (λ q. go (clear-of (f .counter) 1 (has-bits .counter)) q))
+        where
+          go : (f .bits + k / 8 < f .counter) ⊎ (f .counter + 1 ≤ f .bits + k / 8) → f .bits + k / 8 ≢ f .counter
+          go (inl l) q = omega arith
+          go (inr l) q = omega arith
+      protected-order b Order.Change w =
+          bit-stays (sets image (f .code) b) (byte-sets image (f .code) b (f .bits + k / 8) (go (clear-of (f .code) (f .digits) (has-bits .code))))
+        where
+          go : (f .bits + k / 8 < f .code) ⊎ (f .code + f .digits ≤ f .bits + k / 8) → (f .bits + k / 8 < f .code) ⊎ (f .code + length b ≤ f .bits + k / 8)
+          go (inl l) = inl l
+          go (inr l) = inr (omega (arith, w .1))
+
+    -- a byte without a bit is never protected, and no D1 reaches it
+    carries-none : f .covered ≤ k → (b : List ℕ) (o : Order) → Fit f b o → carriesBy image b k o ≡ false
+    carries-none l b (Order.Refuse status) w = refl
+    carries-none l b Order.Select w = refl
+    carries-none l b (Order.Page p) w = refl
+    carries-none l b (Order.Read at n) w = refl
+    carries-none l b (Order.Counter n) w = refl
+    carries-none l b (Order.Bits at n) w = refl
+    carries-none l b (Order.Write at) w = refl
+    carries-none l b (Order.Protect at) w = carries-before at b k (byte image k) (omega (arith, w .0, laid chip .reached))
+    carries-none l b Order.Present w = refl
+    carries-none l b Order.Change w = refl
+
+    beyond : f .covered ≤ k → (b : List ℕ) (o : Order) → Fit f b o → guarded (imageBy f s image b o) ≡ (guarded image or carriesBy image b k o)
+    beyond l b o w =
+        protected-beyond (f .bits) (f .covered) (imageBy f s image b o) k l
+        ∙ sym (ap (λ (x : Bool). guarded image or x) (carries-none l b o w) ∙ or-end _ ∙ protected-beyond (f .bits) (f .covered) image k l)
+
+    -- a byte is protected where it was, and where a D1 carries its value
+    pub protected-by : (d : List ℕ) → let o = order f s image d in guarded (imageBy f s image (body d) o) ≡ (guarded image or carriesBy image (body d) k o)
+    protected-by d = go (ltb k (f .covered)) refl
+      where
+        w : Fit f (body d) (order f s image d)
+        w = order-fits f s image d
+
+        go : (b : Bool) → ltb k (f .covered) ≡ b
+            → guarded (imageBy f s image (body d) (order f s image d)) ≡ (guarded image or carriesBy image (body d) k (order f s image d))
+        go true h = protected-order (ltb-true _ _ h) (body d) (order f s image d) w
+        go false h = beyond (ltb-false _ _ h) (body d) (order f s image d) w
