@@ -29,7 +29,27 @@ i2c k n p t = record {
   zeros = n;
 }
 
--- kind, image bytes, chip page, select type
+-- A card without a code is memory and its protection bytes; counter and code would stand past its end. D1 reaches every byte that has a bit.
+abbrev pub withoutCode : ℕ → ℕ → ℕ → ℕ → ℕ → ℕ → Facts
+withoutCode k n m t c z = record {
+  kind = k;
+  size = n;
+  memory = m;
+  page = 0;
+  selects = t;
+  coded = false;
+  full = 0;
+  counter = n;
+  code = n;
+  digits = 0;
+  bits = m;
+  covered = c;
+  reach = c;
+  zeros = z;
+}
+
+-- I2C: kind, image bytes, chip page, select type. Without a code: kind, image bytes, memory bytes, select type, how many of them have a
+-- protection bit, from where on the image is 00h
 abbrev pub facts : Chip → Facts
 facts I2c1 = i2c 1 128 8 0x01
 facts I2c2 = i2c 2 256 8 0x01
@@ -57,24 +77,9 @@ facts Sle4428 = record {
   reach = 0x3FD;
   zeros = 1152;
 }
--- SLE4418: image and type as the SLE4428's, but no code. "bytes 3FDh to 3FFh are plain memory with their protection bits honoured", "and D0
--- and D1 may reach them": D1 reaches all 1024 bytes, and a counter and a code would stand past the image's end
-facts Sle4418 = record {
-  kind = 21;
-  size = 1152;
-  memory = 1024;
-  page = 0;
-  selects = 0x05;
-  coded = false;
-  full = 0;
-  counter = 1152;
-  code = 1152;
-  digits = 0;
-  bits = 1024;
-  covered = 1024;
-  reach = 1024;
-  zeros = 1152;
-}
+-- SLE4418: "images and types as 20", "but no code"; "bytes 3FDh to 3FFh are plain memory with their protection bits honoured", "and D0 and D1
+-- may reach them"
+facts Sle4418 = withoutCode 21 1152 1024 0x05 1024 1152
 -- SLE4442 image: 256 memory bytes, 4 protection bytes (memory 0..31), counter, 3 code bytes
 facts Sle4442 = record {
   kind = 30;
@@ -92,23 +97,8 @@ facts Sle4442 = record {
   reach = 32;
   zeros = 264;
 }
--- SLE4432: image and type as the SLE4442's, but no code: "the last four image bytes must be 00h and never change"
-facts Sle4432 = record {
-  kind = 31;
-  size = 264;
-  memory = 256;
-  page = 0;
-  selects = 0x06;
-  coded = false;
-  full = 0;
-  counter = 264;
-  code = 264;
-  digits = 0;
-  bits = 256;
-  covered = 32;
-  reach = 32;
-  zeros = 260;
-}
+-- SLE4432: "images and types as 30", "but no code"; "the last four image bytes must be 00h and never change"
+facts Sle4432 = withoutCode 31 264 256 0x06 32 260
 
 -- every chip, once
 abbrev pub chips : List Chip

@@ -2,7 +2,7 @@
 // No function has a `requires`. The table is written in specs/Kinds.antt, and this is that table once more, as code.
 
 ghost use mathlib.Core.Path.{_≡_};
-ghost use Rattle.chips.specs.Kinds.{i2c, facts, chipOf};
+ghost use Rattle.chips.specs.Kinds.{i2c, withoutCode, facts, chipOf};
 
 // The chips of the kinds, by what they have: memory alone, then protection bits, then a code too. Whether a card has one of them is then a
 // range of cases, which compiles to a comparison.
@@ -78,6 +78,35 @@ fn i2c_row(kind: u8, size: usize, page: usize, selects: u8) -> Facts
     }
 }
 
+// A card without a code is memory and protection bytes.
+fn row_without_code(
+    kind: u8,
+    size: usize,
+    memory: usize,
+    selects: u8,
+    covered: usize,
+    zeros: usize,
+) -> Facts
+    ensures { λ r. ⌜ r ≡ withoutCode kind size memory selects covered zeros ⌝ }
+{
+    Facts {
+        kind,
+        size,
+        memory,
+        page: 0,
+        selects,
+        coded: false,
+        full: 0,
+        counter: size,
+        code: size,
+        digits: 0,
+        bits: memory,
+        covered,
+        reach: covered,
+        zeros,
+    }
+}
+
 impl Chip {
     // The chip's row.
     pub fn facts(self) -> Facts
@@ -109,22 +138,7 @@ impl Chip {
                 reach: 0x3FD,
                 zeros: 1152,
             },
-            Chip::Sle4418 => Facts {
-                kind: 21,
-                size: 1152,
-                memory: 1024,
-                page: 0,
-                selects: 0x05,
-                coded: false,
-                full: 0,
-                counter: 1152,
-                code: 1152,
-                digits: 0,
-                bits: 1024,
-                covered: 1024,
-                reach: 1024,
-                zeros: 1152,
-            },
+            Chip::Sle4418 => row_without_code(21, 1152, 1024, 0x05, 1024, 1152),
             Chip::Sle4442 => Facts {
                 kind: 30,
                 size: 264,
@@ -141,22 +155,7 @@ impl Chip {
                 reach: 32,
                 zeros: 264,
             },
-            Chip::Sle4432 => Facts {
-                kind: 31,
-                size: 264,
-                memory: 256,
-                page: 0,
-                selects: 0x06,
-                coded: false,
-                full: 0,
-                counter: 264,
-                code: 264,
-                digits: 0,
-                bits: 256,
-                covered: 32,
-                reach: 32,
-                zeros: 260,
-            },
+            Chip::Sle4432 => row_without_code(31, 264, 256, 0x06, 32, 260),
         }
     }
 }

@@ -37,13 +37,13 @@ use Rattle.promise.specs.Sequences.{Called, Sat}
 use Rattle.promise.proofs.Sequences.{called-run, sat-run}
 
 -- ---- a card of a kind just inserted
-record PutIn (chip : Chip) (image : List ℕ) (o : Outcome) : Type 0 where
+record Seated (chip : Chip) (image : List ℕ) (o : Outcome) : Type 0 where
   slot : o .slot ≡ inserted chip
   same : o .image ≡ image
   card : IsCard (facts chip) image
 
-put-in : (chip : Chip) (s : Slot) (kind : ℕ) (image : List ℕ) → chipOf kind ≡ Is chip → insertion s kind image .number ≡ 0 → PutIn chip image (insertion s kind image)
-put-in chip s kind image known e =
+seated : (chip : Chip) (s : Slot) (kind : ℕ) (image : List ℕ) → chipOf kind ≡ Is chip → insertion s kind image .number ≡ 0 → Seated chip image (insertion s kind image)
+seated chip s kind image known e =
     let i = insertion-inserts s kind image in
     let a : Accepted s kind image (insertion s kind image) = i .accepted e in
     let q : a .chip ≡ chip = same (a .chip) (a .known) in
@@ -93,7 +93,7 @@ module _ (chip : Chip) (plain : facts chip .coded ≡ false) where
   pub never-open : (s : Slot) (kind : ℕ) (image : List ℕ) (ms : List Sent) → chipOf kind ≡ Is chip → insertion s kind image .number ≡ 0
       → runFrom s kind image ms .slot .«open» ≡ false
   never-open s kind image ms known e =
-      let p = put-in chip s kind image known e in
+      let p = seated chip s kind image known e in
       closed-stays (insertion s kind image .slot) (insertion s kind image .image) ms (ap (λ (t : Slot). t .holds) (p .slot)) (ap (λ (t : Slot). t .«open») (p .slot))
 
   -- and so by calls: byte 4 of the raw record, and the slot that a sitting holds
@@ -142,7 +142,7 @@ module _ (chip : Chip) (k : ℕ) (tail : facts chip .zeros ≤ k) where
   pub zeros-remain : (s : Slot) (kind : ℕ) (image : List ℕ) (ms : List Sent) → chipOf kind ≡ Is chip → insertion s kind image .number ≡ 0
       → byte (runFrom s kind image ms .image) k ≡ 0
   zeros-remain s kind image ms known e =
-      let p = put-in chip s kind image known e in
+      let p = seated chip s kind image known e in
       zeros-stay (insertion s kind image .slot) (insertion s kind image .image) ms (ap (λ (t : Slot). t .holds) (p .slot))
       ∙ ap (λ (l : List ℕ). byte l k) (p .same)
       ∙ blank-byte image (facts chip .zeros) k (p .card .zeros) tail

@@ -65,11 +65,17 @@ enum-told-10 c = search needs
 enum-told-11 : tie.Need-enum-told-11
 enum-told-11 c = search needs
 
+row-without-code-requires : tie.Need-row-without-code-requires
+row-without-code-requires c κs = search needs
+
 enum-told-12 : tie.Need-enum-told-12
 enum-told-12 c = search needs
 
 enum-told-13 : tie.Need-enum-told-13
 enum-told-13 c = search needs
+
+row-without-code-requires-2 : tie.Need-row-without-code-requires-2
+row-without-code-requires-2 c κs = search needs
 
 returns : tie.Need-returns
 returns c = c .i2c-row .ensures ∙ sym (ap facts (c .before .enum-told .given .1))
@@ -102,13 +108,13 @@ returns-10 : tie.Need-returns-10
 returns-10 c = sym (ap facts (c .enum-told10 .given .1))
 
 returns-11 : tie.Need-returns-11
-returns-11 c = sym (ap facts (c .enum-told11 .given .1))
+returns-11 c = c .row-without-code .ensures ∙ sym (ap facts (c .before .enum-told11 .given .1))
 
 returns-12 : tie.Need-returns-12
 returns-12 c = sym (ap facts (c .enum-told12 .given .1))
 
 returns-13 : tie.Need-returns-13
-returns-13 c = sym (ap facts (c .enum-told13 .given .1))
+returns-13 c = c .row-without-code2 .ensures ∙ sym (ap facts (c .before .enum-told13 .given .1))
 
 pub facts-spec : {M : Type 1} → statement M
 facts-spec =
@@ -134,8 +140,10 @@ facts-spec =
     i2c-row-requires-9
     enum-told-10
     enum-told-11
+    row-without-code-requires
     enum-told-12
     enum-told-13
+    row-without-code-requires-2
     returns
     returns-2
     returns-3
