@@ -47,11 +47,11 @@ laid chip = record {
 abbrev pub Clear : ℕ → ℕ → ℕ → Facts → Type 0
 Clear k n m f = (k + n ≤ f .bits) ⊎ (f .bits + (m + 7) / 8 ≤ k)
 
-isClear : ℕ → ℕ → ℕ → Facts → Bool
-isClear k n m f = leb (k + n) (f .bits) or leb (f .bits + (m + 7) / 8) k
+isApart : ℕ → ℕ → ℕ → Facts → Bool
+isApart k n m f = leb (k + n) (f .bits) or leb (f .bits + (m + 7) / 8) k
 
-clear-told : (k n m : ℕ) (f : Facts) → isClear k n m f ≡ true → Clear k n m f
-unfolding isClear
+clear-told : (k n m : ℕ) (f : Facts) → isApart k n m f ≡ true → Clear k n m f
+unfolding isApart
 clear-told k n m f e = go (or-true _ _ e)
   where
     go : (leb (k + n) (f .bits) ≡ true) ⊎ (leb (f .bits + (m + 7) / 8) k ≡ true) → Clear k n m f
@@ -73,12 +73,12 @@ abbrev hasCode : Facts → Bool
 hasCode f = f .coded
 
 pub coded : (chip : Chip) → facts chip .coded ≡ true → Coded (facts chip)
-unfolding allOf _and_ _or_ _means_ isClear
+unfolding allOf _and_ _or_ _means_ isApart
 coded chip c = record {
   coded = c;
   inside = ltb-true _ _ (each-of hasCode (λ (f : Facts). ltb (f .counter) (f .size)) refl chip c);
   behind = ltb-true _ _ (each-of hasCode (λ (f : Facts). ltb (f .counter) (f .code)) refl chip c);
-  apart = clear-told _ 1 _ (facts chip) (each-of hasCode (λ (f : Facts). isClear (f .counter) 1 (f .reach) f) refl chip c);
+  apart = clear-told _ 1 _ (facts chip) (each-of hasCode (λ (f : Facts). isApart (f .counter) 1 (f .reach) f) refl chip c);
   opens = ltb-true _ _ (each-of hasCode (λ (f : Facts). ltb 0 (f .full)) refl chip c);
   long = leb-true _ _ (each-of hasCode (λ (f : Facts). leb 2 (f .digits)) refl chip c);
   pageless = eqb-true _ _ (each-of hasCode (λ (f : Facts). f .page is 0) refl chip c);
@@ -139,12 +139,12 @@ abbrev hasBits : Facts → Bool
 hasBits f = ltb 0 (f .covered)
 
 pub bitted : (chip : Chip) → 0 < facts chip .covered → Bitted (facts chip)
-unfolding allOf _and_ _or_ _means_ isClear
+unfolding allOf _and_ _or_ _means_ isApart
 bitted chip c = record {
   pageless = eqb-true _ _ (each-of hasBits (λ (f : Facts). f .page is 0) refl chip (lt-ltb _ _ c));
   behind = leb-true _ _ (each-of hasBits (λ (f : Facts). leb (f .memory) (f .bits)) refl chip (lt-ltb _ _ c));
-  counter = clear-told _ 1 _ (facts chip) (each-of hasBits (λ (f : Facts). isClear (f .counter) 1 (f .covered) f) refl chip (lt-ltb _ _ c));
-  code = clear-told _ _ _ (facts chip) (each-of hasBits (λ (f : Facts). isClear (f .code) (f .digits) (f .covered) f) refl chip (lt-ltb _ _ c));
+  counter = clear-told _ 1 _ (facts chip) (each-of hasBits (λ (f : Facts). isApart (f .counter) 1 (f .covered) f) refl chip (lt-ltb _ _ c));
+  code = clear-told _ _ _ (facts chip) (each-of hasBits (λ (f : Facts). isApart (f .code) (f .digits) (f .covered) f) refl chip (lt-ltb _ _ c));
   past = λ h. leb-true _ _ (means-true _ _ (each-of hasBits (λ (f : Facts). f .coded and f .selects is 0x06 means leb (f .covered) (f .code)) refl chip (lt-ltb _ _ c)) h);
 }
 

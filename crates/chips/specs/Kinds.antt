@@ -29,7 +29,8 @@ i2c k n p t = record {
   zeros = n;
 }
 
--- A card without a code is memory and its protection bytes; counter and code would stand past its end. D1 reaches every byte that has a bit.
+-- 02: "Kinds 21 and 31: images and types as 20 and 30, but no code". Such a card is memory and protection bytes; counter and code would stand past
+-- its end. D1 reaches every byte that has a bit.
 abbrev pub withoutCode : ℕ → ℕ → ℕ → ℕ → ℕ → ℕ → Facts
 withoutCode k n m t c z = record {
   kind = k;
@@ -77,8 +78,7 @@ facts Sle4428 = record {
   reach = 0x3FD;
   zeros = 1152;
 }
--- SLE4418: "images and types as 20", "but no code"; "bytes 3FDh to 3FFh are plain memory with their protection bits honoured", "and D0 and D1
--- may reach them"
+-- SLE4418: "bytes 3FDh to 3FFh are plain memory with their protection bits honoured, read in clear, and D0 and D1 may reach them"
 facts Sle4418 = withoutCode 21 1152 1024 0x05 1024 1152
 -- SLE4442 image: 256 memory bytes, 4 protection bytes (memory 0..31), counter, 3 code bytes
 facts Sle4442 = record {
@@ -97,7 +97,7 @@ facts Sle4442 = record {
   reach = 32;
   zeros = 264;
 }
--- SLE4432: "images and types as 30", "but no code"; "the last four image bytes must be 00h and never change"
+-- SLE4432: "the last four image bytes must be 00h and never change"
 facts Sle4432 = withoutCode 31 264 256 0x06 32 260
 
 -- every chip, once

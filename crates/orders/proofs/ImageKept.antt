@@ -69,7 +69,8 @@ module _ (f : Facts) (c : Coded f) (s : Slot) (image b : List ℕ) where
   counter-kept (Order.Read at n) h ne = refl
   counter-kept (Order.Counter n) h ne = refl
   counter-kept (Order.Bits at n) h ne = refl
-  counter-kept (Order.Write at) h ne = ap (λ (l : List ℕ). byte l (f .counter)) (written-sets f s image b (c .pageless) (s .page) at) ∙ byte-sets image at b (f .counter) (go (h .2))
+  counter-kept (Order.Write at) h ne =
+      ap (λ (l : List ℕ). byte l (f .counter)) (written-sets f s image b (c .pageless) (s .page) at) ∙ byte-sets image at b (f .counter) (go (h .2))
     where
       go : (at + length b ≤ f .counter) ⊎ (f .counter < at) → (f .counter < at) ⊎ (at + length b ≤ f .counter)
       go (inl k) = inr k

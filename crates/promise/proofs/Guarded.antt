@@ -1,7 +1,7 @@
 -- Visits of all four kinds with protection bits meet what the theorems on protected bytes speak of, and cards without a code are put in: the
 -- rules are computed.
 use mathlib.Core.Path.{_≡_, refl}
-use mathlib.Core.Bool.{Bool·beq, false}
+use mathlib.Core.Bool.{false}
 use mathlib.Core.List.{List}
 use Prim.Native.Nat.{ℕ, _<_}
 use native.Mathlib.Omega.{arith}

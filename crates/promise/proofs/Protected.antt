@@ -1,9 +1,9 @@
 -- A protected byte keeps its value and stays protected whatever is sent, turned-down and failed messages included; a byte becomes
 -- protected by a D1 that carries its value and by nothing else. Over every kind: where a card has no bits, no byte is protected.
 use Prim.Native.Nat.{ℕ}
-use mathlib.Core.Path.{_≡_, refl, sym, ap, ap₂, _∙_, subst⁻¹}
+use mathlib.Core.Path.{_≡_, refl, sym, ap, _∙_, subst⁻¹}
 use mathlib.Core.Bool.{Bool, true, false}
-use mathlib.Core.List.{List, [], _∷_, _++_}
+use mathlib.Core.List.{List, [], _∷_}
 use lib.ListN.{take}
 use Rattle.words.specs.Choice.{_and_, _or_}
 use Rattle.words.specs.Bytes.{byte}

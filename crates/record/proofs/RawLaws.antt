@@ -1,13 +1,12 @@
 -- Laws of raw records: bytes that are blank, a record that was found, and what is written.
 use mathlib.Core.Path.{_≡_, refl, sym, ap, _∙_}
-use Prim.Native.Nat.{ℕ, _+_, _-_, _*_, _≤_, _<_}
+use Prim.Native.Nat.{ℕ, _+_, _-_, _*_, _≤_}
 use mathlib.Core.Bool.{Bool, true, false, not, false≢true}
 use mathlib.Core.List.{List, [], _∷_, _++_, append-nil}
-use native.Mathlib.Numerals.{add-one}
 use native.Mathlib.Omega.{arith}
 use lib.ListN.{length, drop, set, replicate, length-drop, length-replicate, replicate-append-replicate, drop-of-length-le}
 use lib.Dec.{ltb}
-use lib.Seq.{drop-cons, sets, sets-eq}
+use lib.Seq.{sets, sets-eq}
 use borrow.Author.Tests.{eq-eqb, ne-eqb, eqb-true, not-false, ltb-false}
 use Rattle.words.specs.Choice.{_and_, _is_, _isnt_}
 use Rattle.words.specs.Bytes.{byte, blank, fourAt, eightAt, lowFirst}

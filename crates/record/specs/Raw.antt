@@ -1,7 +1,7 @@
 -- The raw slot record, 32 bytes: what is written, and what any bytes are read as.
 use Prim.Native.Nat.{ℕ}
 use mathlib.Core.Bool.{Bool, true, false, not}
-use mathlib.Core.List.{List, [], _∷_, _++_}
+use mathlib.Core.List.{List, _∷_, _++_}
 use lib.ListN.{length, drop, replicate}
 use lib.Dec.{ltb}
 use Rattle.words.specs.Choice.{_⇒_⁏_, _and_, _is_, _isnt_}

@@ -82,5 +82,6 @@ wrongReaders =
 
 -- the table and its words at once, for what is proved by computing them
 unfoldable pub witnesses : ℕ
-unfolding ones lent selectedSlot image4442 image4428 image4418 image4432 transfer setting heard remembering answersAgain equalFree storeAround upToUnequal cutFrom backwards wrongReaders
+unfolding ones lent selectedSlot image4442 image4428 image4418 image4432 transfer setting heard
+    remembering answersAgain equalFree storeAround upToUnequal cutFrom backwards wrongReaders
 witnesses = 0

@@ -18,9 +18,10 @@ use Rattle.steps.specs.Steps.{place, p3, body, needsOpen}
 use Rattle.orders.specs.Orders.{done, commanded}
 use Rattle.frame.specs.declared.Refusal.{Refusal}
 use Rattle.frame.specs.Exchange.{turnedDown, exchange, insertion}
-use Rattle.wrong.specs.Wrong.{Reader, Inserter, slotting, imaging, telling, tells, stands, leaves, cardIn, taking, insertsBy, uponInsert, upon, commanding, letting, barring, doing}
+use Rattle.wrong.specs.Wrong.{Reader, Inserter, slotting, imaging, telling, tells, stands, leaves, cardIn}
+use Rattle.wrong.specs.Wrong.{taking, insertsBy, uponInsert, upon, commanding, letting, barring, doing}
 use Rattle.wrong.specs.WrongDowns.{sizeFits, counterFits, ownBitFits}
-use Rattle.wrong.specs.WrongSteps.{ins, upTo, protectionBytes}
+use Rattle.wrong.specs.WrongSteps.{ins, upTo}
 
 -- a card with protection bits and no code
 abbrev pub uncoded : Facts → Bool

@@ -102,13 +102,14 @@ returns-4 c =
     let on = c .before .before .before in
     let a = on .before .before .before .before .before .before .before .before .before .before .before .before .args in
     let f = facts (a .chip) in
-    let e5 = c .before .before .facts6 .ensures in
-    let e6 = c .before .facts7 .ensures in
-    let e3 = on .before .before .before .before .facts4 .ensures in
+    let e6 = c .before .before .facts6 .ensures in
+    let e7 = c .before .facts7 .ensures in
+    let e4 = on .before .before .before .before .facts4 .ensures in
     let p : c .protected .result ≡ isProtected (f .bits) (f .covered) (a .image .now) (f .counter) = cc in
     let x : Bool = not (isProtected (f .bits) (f .covered) (a .image .now) (f .counter)) in
-    let z = coded-zeros (a .chip) (a .image .now) (with-code (on .before .before .before .before .before)) (image-sized (on .before .before .before .before .before .before .before .before)) in
-    and-holds (eq-eqb _ _ (image-sized (on .before .before .before .before .before .before .before .before)))
+    let sized = on .before .before .before .before .before .before .before .before in
+    let z = coded-zeros (a .chip) (a .image .now) (with-code (on .before .before .before .before .before)) (image-sized sized) in
+    and-holds (eq-eqb _ _ (image-sized sized))
     (and-holds (le-leb (byte (a .image .now) (f .counter)) (f .full) (within on)) (ap not p ∙ sym (ap (λ (t : Bool). x and t) z ∙ and-end x)))
 
 pub is-card-spec : {M : Type 1} → statement M
