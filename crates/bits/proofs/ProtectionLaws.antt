@@ -109,6 +109,31 @@ module _ (bits covered : ℕ) where
       go later false p q true r = ap (isProtected bits covered image) (sym (eqb-true k j r)) ∙ p
       go later false p q false r = later q (omega (arith, eqb-false k j r))
 
+  -- where it finds one, that byte is protected and stands in the range, and no byte of the range before it is protected
+  pub record Found (image : List ℕ) (k n at : ℕ) : Type 0 where
+    pub from : k ≤ at
+    pub within : at < k + n
+    pub here : isProtected bits covered image at ≡ true
+    pub before : (j : ℕ) → k ≤ j → j < at → isProtected bits covered image j ≡ false
+
+  pub first-found : (image : List ℕ) (k n at : ℕ) → firstProtected bits covered image k n ≡ At at → Found image k n at
+  unfolding firstProtected _⇒_⁏_
+  first-found image k zero at e = let z : _≡_ {A = ℕ} 0 1 = cc in absurd (omega arith)
+  first-found image k (suc n) at e = go (first-found image (k + 1) n at) (isProtected bits covered image k) refl e
+    where
+      go : (firstProtected bits covered image (k + 1) n ≡ At at → Found image (k + 1) n at)
+          → (b : Bool) → isProtected bits covered image k ≡ b → (b ⇒ At k ⁏ firstProtected bits covered image (k + 1) n) ≡ At at → Found image k (suc n) at
+      go later true p q =
+          let e : k ≡ at = cc in
+          record { from = omega arith; within = omega arith; here = ap (isProtected bits covered image) (sym e) ∙ p; before = λ j h l. absurd (omega arith) }
+      go later false p q =
+          let f = later q in
+          record { from = omega (arith, f .from); within = omega (arith, f .within); here = f .here; before = λ j h l. earlier f j (eqb k j) refl h l }
+        where
+          earlier : Found image (k + 1) n at → (j : ℕ) → (c : Bool) → eqb k j ≡ c → k ≤ j → j < at → isProtected bits covered image j ≡ false
+          earlier f j true r h l = ap (isProtected bits covered image) (sym (eqb-true k j r)) ∙ p
+          earlier f j false r h l = f .before j (omega (arith, eqb-false k j r)) l
+
   -- ---- bytes protected
   pub length-protecting : (image : List ℕ) (k : ℕ) → length (protecting bits covered image k) ≡ length image
   unfolding protecting

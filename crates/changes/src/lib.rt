@@ -13,9 +13,23 @@ ghost use Prim.Native.Nat.{_+_, _≤_, _<_};
 ghost use lib.ListN.{length};
 ghost use Rattle.words.specs.Bounds.{leastTail};
 ghost use Rattle.chips.specs.Kinds.{facts};
-ghost use Rattle.orders.specs.Orders.{Does, performed};
+ghost use Rattle.orders.specs.Orders.{Does, performed, reported, written};
 
-// D0: an I2C card writes the bytes by pages, any other stores them.
+// D0's bytes: an I2C card writes them by pages, any other stores those that are not protected. The report: on an I2C card always true, on any
+// other whether each byte of the range ended equal to the one sent.
+fn write_bytes(chip: Chip, page: u8, image: &mut [u8], at: usize, data: &[u8]) -> bool
+    requires { ⌜ (length (now image) ≡ facts chip .size) × (at + length (now «data») ≤ facts chip .memory) × (0 < page) ⌝ }
+    ensures image { λ _. ⌜ now (image .exit) ≡ written (facts chip) page (now (image .entry)) at (now («data» .entry)) ⌝ }
+    ensures report { λ r. ⌜ r ≡ reported (facts chip) (now (image .exit)) at (now («data» .entry)) ⌝ }
+{
+    if chip.facts().page != 0 {
+        pages::write(image, at, data, wide(page), chip.facts().page);
+        return true;
+    }
+    stores::store_unprotected(image, chip.facts().bits, chip.facts().covered, at, data)
+}
+
+// D0: the report says 90 00, or 65 81.
 pub fn write(
     chip: Chip,
     slot: Slot,
@@ -27,8 +41,11 @@ pub fn write(
     requires { ⌜ (leastTail ≤ length (now out)) × (length (now image) ≡ facts chip .size) × (at + length (now «data») ≤ facts chip .memory) × (0 < slot .page) ⌝ }
     ensures { λ r. ⌜ Does (performed (facts chip) slot (now (image .entry)) (now («data» .entry)) (Order.Write at)) r (now (image .exit)) (now (out .entry)) (now (out .exit)) ⌝ }
 {
-    pages::write(image, at, data, wide(slot.page), chip.facts().page);
-    let len = put_two(out, 0, 0x90, 0x00);
+    if write_bytes(chip, slot.page, image, at, data) {
+        let len = put_two(out, 0, 0x90, 0x00);
+        return Told { len, slot };
+    }
+    let len = put_two(out, 0, 0x65, 0x81);
     Told { len, slot }
 }
 

@@ -4,7 +4,7 @@ use mathlib.Core.Bool.{Bool, true, false, not}
 use mathlib.Core.Logic.{_⊎_, inl, inr}
 use Prim.Native.Nat.{ℕ, _+_, _/_, _%_, _≤_, _<_}
 use lib.Dec.{leb, ltb}
-use borrow.Author.Tests.{eqb-true, leb-true, ltb-true, lt-ltb}
+use borrow.Author.Tests.{eqb-true, eq-eqb, leb-true, ltb-true, lt-ltb}
 use Rattle.words.specs.Choice.{_and_, _or_, _means_, _is_}
 use Rattle.words.specs.Bounds.{largest}
 use Rattle.words.proofs.Choices.{or-true, means-true}
@@ -24,6 +24,7 @@ pub record Laid (f : Facts) : Type 0 where
   pub digits : f .digits ≤ 3
   pub guards : f .bits + (f .covered + 7) / 8 ≤ f .size
   pub kept : f .covered ≤ f .memory
+  pub behind : f .memory ≤ f .bits
   pub reached : f .reach ≤ f .covered
   pub small : f .full < 256
 
@@ -39,6 +40,7 @@ laid chip = record {
   digits = leb-true _ _ (each (λ (f : Facts). leb (f .digits) 3) refl chip);
   guards = leb-true _ _ (each (λ (f : Facts). leb (f .bits + (f .covered + 7) / 8) (f .size)) refl chip);
   kept = leb-true _ _ (each (λ (f : Facts). leb (f .covered) (f .memory)) refl chip);
+  behind = leb-true _ _ (each (λ (f : Facts). leb (f .memory) (f .bits)) refl chip);
   reached = leb-true _ _ (each (λ (f : Facts). leb (f .reach) (f .covered)) refl chip);
   small = ltb-true _ _ (each (λ (f : Facts). ltb (f .full) 256) refl chip);
 }
@@ -120,7 +122,7 @@ hasBit f = ltb (f .counter) (f .covered)
 pub guarded : (chip : Chip) → facts chip .counter < facts chip .covered → Guarded (facts chip)
 unfolding allOf _and_ _means_
 guarded chip c = record {
-  behind = leb-true _ _ (each-of hasBit (λ (f : Facts). leb (f .memory) (f .bits)) refl chip (lt-ltb _ _ c));
+  behind = laid chip .behind;
   beyond = leb-true _ _ (each-of hasBit (λ (f : Facts). leb (f .code + f .digits) (f .bits)) refl chip (lt-ltb _ _ c));
   before = ltb-true _ _ (each-of hasBit (λ (f : Facts). ltb (f .counter) (f .bits)) refl chip (lt-ltb _ _ c));
   short = leb-true _ _ (each-of hasBit (λ (f : Facts). leb (f .reach) (f .counter)) refl chip (lt-ltb _ _ c));
@@ -142,11 +144,20 @@ pub bitted : (chip : Chip) → 0 < facts chip .covered → Bitted (facts chip)
 unfolding allOf _and_ _or_ _means_ isApart
 bitted chip c = record {
   pageless = eqb-true _ _ (each-of hasBits (λ (f : Facts). f .page is 0) refl chip (lt-ltb _ _ c));
-  behind = leb-true _ _ (each-of hasBits (λ (f : Facts). leb (f .memory) (f .bits)) refl chip (lt-ltb _ _ c));
+  behind = laid chip .behind;
   counter = clear-told _ 1 _ (facts chip) (each-of hasBits (λ (f : Facts). isApart (f .counter) 1 (f .covered) f) refl chip (lt-ltb _ _ c));
   code = clear-told _ _ _ (facts chip) (each-of hasBits (λ (f : Facts). isApart (f .code) (f .digits) (f .covered) f) refl chip (lt-ltb _ _ c));
   past = λ h. leb-true _ _ (means-true _ _ (each-of hasBits (λ (f : Facts). f .coded and f .selects is 0x06 means leb (f .covered) (f .code)) refl chip (lt-ltb _ _ c)) h);
 }
+
+-- a card with pages is none, and one without them is one
+pub pages-bare : (chip : Chip) → 0 < facts chip .page → facts chip .covered ≡ 0
+unfolding allOf _and_ _means_
+pages-bare chip h = eqb-true _ _ (each-of (λ (f : Facts). ltb 0 (f .page)) (λ (f : Facts). f .covered is 0) refl chip (lt-ltb _ _ h))
+
+pub pageless-bits : (chip : Chip) → facts chip .page ≡ 0 → 0 < facts chip .covered
+unfolding allOf _and_ _means_
+pageless-bits chip e = ltb-true _ _ (each-of (λ (f : Facts). f .page is 0) hasBits refl chip (eq-eqb _ 0 e))
 
 -- ---- bytes that have to be 00h stand behind memory and protection bytes, on a card without pages; a code card has none (`Coded.filled`)
 pub record Zeroed (f : Facts) : Type 0 where

@@ -49,6 +49,6 @@ pub fn command(chip: Chip, slot: Slot, image: &mut [u8], apdu: &[u8], out: &mut 
     if apdu.len() < 5 {
         return orders::refuse(Status::Length, slot, out);
     }
-    let order = decide::decide(chip, slot, image, apdu);
+    let order = decide::decide(chip, slot, apdu);
     perform(order, chip, slot, image, &apdu[5..], out)
 }

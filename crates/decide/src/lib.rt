@@ -1,5 +1,5 @@
-// INS selects: from a pseudo-APDU that passed the first step to an order. Inner functions: they ask that five bytes are there, and that the
-// image is as long as the card's. The rules are those of `steps`.
+// INS selects: from a pseudo-APDU that passed the first step to an order. Inner functions: they ask that five bytes are there. The rules are
+// those of `steps`.
 
 use chips::Chip;
 use slot::Slot;
@@ -22,10 +22,10 @@ fn place_of(apdu: &[u8]) -> usize
     256 * wide(apdu[2]) + wide(apdu[3])
 }
 
-// The ten steps, on a pseudo-APDU that passed the first.
-pub fn decide(chip: Chip, slot: Slot, image: &[u8], apdu: &[u8]) -> Order
-    requires { ⌜ (5 ≤ length (now apdu)) × (length (now image) ≡ facts chip .size) ⌝ }
-    ensures { λ r. ⌜ r ≡ order (facts chip) slot (now (image .entry)) (now (apdu .entry)) ⌝ }
+// The nine steps, on a pseudo-APDU that passed the first.
+pub fn decide(chip: Chip, slot: Slot, apdu: &[u8]) -> Order
+    requires { ⌜ 5 ≤ length (now apdu) ⌝ }
+    ensures { λ r. ⌜ r ≡ order (facts chip) slot (now (apdu .entry)) ⌝ }
 {
     if apdu[0] != 0xFF {
         return Order::Refuse(Status::Class);
@@ -41,7 +41,7 @@ pub fn decide(chip: Chip, slot: Slot, image: &[u8], apdu: &[u8]) -> Order
         0xB0 => steps::read_order(chip, slot, n, at, p),
         0xB1 => steps::counter_order(chip, slot, n, at, p),
         0xB2 => steps::bits_order(chip, slot, n, at, p),
-        0xD0 => guards::write_order(chip, slot, image, n, at, p),
+        0xD0 => guards::write_order(chip, slot, n, at, p),
         0xD1 => guards::protect_order(chip, slot, n, at, p),
         0x20 => guards::present_order(chip, slot, n, at, p),
         0xD2 => guards::change_order(chip, slot, n, at, p),

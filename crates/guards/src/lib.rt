@@ -1,16 +1,13 @@
 // The steps of the commands that a closed card refuses, or that open it: D0, D1, 20, D2. Inner functions: they ask that P1P2 and P3 come
-// from bytes, and that the protection bits lie in the image. The rules are those of `steps`.
+// from bytes. The rules are those of `steps`.
 
-use bits::Place;
 use chips::Chip;
 use slot::Slot;
 use steps::Order;
 use steps::Status;
 ghost use mathlib.Core.Path.{_≡_};
 ghost use mathlib.Core.Bool.{not};
-ghost use mathlib.Core.List.{List};
 ghost use Prim.Native.Nat.{ℕ, _<_};
-ghost use lib.ListN.{length};
 ghost use Rattle.words.specs.Choice.{_and_};
 ghost use Rattle.words.specs.Bounds.{addresses};
 ghost use Rattle.chips.specs.Kinds.{facts};
@@ -40,10 +37,10 @@ fn write_place(chip: Chip, at: usize, p: usize) -> bool
     chip.facts().counter < at
 }
 
-// D0: the first protected byte in the range refuses the write.
-pub fn write_order(chip: Chip, slot: Slot, image: &[u8], n: usize, at: usize, p: usize) -> Order
-    requires { ⌜ (at < addresses) × (p < 256) × (length (now image) ≡ facts chip .size) ⌝ }
-    ensures { λ r. ⌜ ((v : ℕ) → r ≡ steps (facts chip) slot (now (image .entry)) n at p v Write) ⌝ }
+// D0.
+pub fn write_order(chip: Chip, slot: Slot, n: usize, at: usize, p: usize) -> Order
+    requires { ⌜ (at < addresses) × (p < 256) ⌝ }
+    ensures { λ r. ⌜ ((v : ℕ) → r ≡ steps (facts chip) slot n at p v Write) ⌝ }
 {
     if slot.selected == 0 {
         return Order::Refuse(Status::Unselected);
@@ -60,17 +57,13 @@ pub fn write_order(chip: Chip, slot: Slot, image: &[u8], n: usize, at: usize, p:
     if locked(chip, slot) {
         return Order::Refuse(Status::Denied);
     }
-    let found = bits::first_protected(image, chip.facts().bits, chip.facts().covered, at, p);
-    match found {
-        Place::At(_) => Order::Refuse(Status::Denied),
-        Place::Nowhere => Order::Write(at),
-    }
+    Order::Write(at)
 }
 
 // D1.
 pub fn protect_order(chip: Chip, slot: Slot, n: usize, at: usize, p: usize) -> Order
     requires { ⌜ (at < addresses) × (p < 256) ⌝ }
-    ensures { λ r. ⌜ ((image : List ℕ) (v : ℕ) → r ≡ steps (facts chip) slot image n at p v Protect) ⌝ }
+    ensures { λ r. ⌜ ((v : ℕ) → r ≡ steps (facts chip) slot n at p v Protect) ⌝ }
 {
     if slot.selected == 0 {
         return Order::Refuse(Status::Unselected);
@@ -96,7 +89,7 @@ pub fn protect_order(chip: Chip, slot: Slot, n: usize, at: usize, p: usize) -> O
 // 20.
 pub fn present_order(chip: Chip, slot: Slot, n: usize, at: usize, p: usize) -> Order
     requires { ⌜ p < 256 ⌝ }
-    ensures { λ r. ⌜ ((image : List ℕ) (v : ℕ) → r ≡ steps (facts chip) slot image n at p v Present) ⌝ }
+    ensures { λ r. ⌜ ((v : ℕ) → r ≡ steps (facts chip) slot n at p v Present) ⌝ }
 {
     if slot.selected == 0 {
         return Order::Refuse(Status::Unselected);
@@ -129,7 +122,7 @@ fn has_change(chip: Chip) -> bool
 // D2.
 pub fn change_order(chip: Chip, slot: Slot, n: usize, at: usize, p: usize) -> Order
     requires { ⌜ p < 256 ⌝ }
-    ensures { λ r. ⌜ ((image : List ℕ) (v : ℕ) → r ≡ steps (facts chip) slot image n at p v Change) ⌝ }
+    ensures { λ r. ⌜ ((v : ℕ) → r ≡ steps (facts chip) slot n at p v Change) ⌝ }
 {
     if slot.selected == 0 {
         return Order::Refuse(Status::Unselected);

@@ -12,7 +12,7 @@ use lib.Dec.{ltb}
 use borrow.Author.Tests.{eq-eqb, ltb-true, ltb-false}
 use Rattle.words.specs.Choice.{_and_}
 use Rattle.words.specs.Bytes.{byte, blank}
-use Rattle.words.proofs.Choices.{either, first}
+use Rattle.words.proofs.Choices.{either, rest}
 use Rattle.words.proofs.Lists.{byte-sets, blank-byte, byte-blank}
 use Rattle.chips.specs.declared.Chip.{Chip}
 use Rattle.chips.specs.declared.Facts.{Facts}
@@ -25,20 +25,22 @@ use Rattle.chips.proofs.KindLaws.{Clear, Coded, coded, Guarded, guarded, zeroed
 use Rattle.card.proofs.ImageLaws.{IsCard, plain-card}
 use Rattle.slot.specs.declared.Slot.{Slot}
 use Rattle.pages.proofs.PageLaws.{length-pageWrite}
+use Rattle.stores.specs.Stores.{storing}
+use Rattle.stores.proofs.StoreLaws.{length-storing, byte-outside}
 use Rattle.codes.proofs.CodeLaws.{presenting-either, length-presenting, byte-presenting, byte-spending, byte-full}
 use Rattle.steps.specs.declared.Order.{Order}
 use Rattle.steps.specs.Steps.{Ins, Select, Page, Read, Counter, Bits, Write, Protect, Present, Change, Other, place, p3, body, ordered, presents, order}
-use Rattle.pages.specs.Pages.{written}
-use Rattle.orders.specs.Orders.{imageBy}
+use Rattle.orders.specs.Orders.{written, imageBy}
 use Rattle.steps.proofs.Decisions.{Passed, Decided, refused, through, decided}
 use Rattle.steps.proofs.PresentAgain.{presents-is}
 use Rattle.steps.specs.Fits.{Fit}
 
 -- ---- the length
 module _ (f : Facts) (s : Slot) (image b : List ℕ) where
-  pub length-written : (page at : ℕ) → length (written page (f .page) image at b) ≡ length image
+  length-written : (page at : ℕ) → length (written f page image at b) ≡ length image
   unfolding written
-  length-written page at = either (λ (l : List ℕ). length l ≡ length image) _ (λ _. length-sets image at b) (λ _. length-pageWrite page (f .page) image at at b)
+  length-written page at =
+      either (λ (l : List ℕ). length l ≡ length image) _ (λ _. length-pageWrite page (f .page) image at at b) (λ _. length-storing (f .bits) (f .covered) image at b)
 
   pub length-imageBy : (o : Order) → length (imageBy f s image b o) ≡ length image
   unfolding imageBy
@@ -53,10 +55,14 @@ module _ (f : Facts) (s : Slot) (image b : List ℕ) where
   length-imageBy Order.Present = length-presenting (f .counter) (f .full) (f .code) (f .digits) image b
   length-imageBy Order.Change = length-sets image (f .code) b
 
-  -- a card without pages stores the bytes
-  pub written-sets : f .page ≡ 0 → (page at : ℕ) → written page (f .page) image at b ≡ sets image at b
+  -- a card without pages stores the bytes that are not protected
+  pub written-stores : f .page ≡ 0 → (page at : ℕ) → written f page image at b ≡ storing (f .bits) (f .covered) image at b
   unfolding written
-  written-sets e page at = first _ _ (eq-eqb _ _ e)
+  written-stores e page at = rest _ _ (ap not (eq-eqb _ _ e))
+
+  -- and leaves every other byte
+  pub byte-written : f .page ≡ 0 → (page at k : ℕ) → (k < at) ⊎ (at + length b ≤ k) → byte (written f page image at b) k ≡ byte image k
+  byte-written e page at k h = ap (λ (l : List ℕ). byte l k) (written-stores e page at) ∙ byte-outside (f .bits) (f .covered) image at b k h
 
 -- ---- the counter, and its protection bit
 module _ (f : Facts) (c : Coded f) (s : Slot) (image b : List ℕ) where
@@ -69,8 +75,7 @@ module _ (f : Facts) (c : Coded f) (s : Slot) (image b : List ℕ) where
   counter-kept (Order.Read at n) h ne = refl
   counter-kept (Order.Counter n) h ne = refl
   counter-kept (Order.Bits at n) h ne = refl
-  counter-kept (Order.Write at) h ne =
-      ap (λ (l : List ℕ). byte l (f .counter)) (written-sets f s image b (c .pageless) (s .page) at) ∙ byte-sets image at b (f .counter) (go (h .2))
+  counter-kept (Order.Write at) h ne = byte-written f s image b (c .pageless) (s .page) at (f .counter) (go (h .2))
     where
       go : (at + length b ≤ f .counter) ⊎ (f .counter < at) → (f .counter < at) ⊎ (at + length b ≤ f .counter)
       go (inl k) = inr k
@@ -94,9 +99,8 @@ module _ (f : Facts) (c : Coded f) (s : Slot) (image b : List ℕ) where
   bit-kept g (Order.Counter n) h = refl
   bit-kept g (Order.Bits at n) h = refl
   bit-kept g (Order.Write at) h =
-      ap (λ (l : List ℕ). protectionBit (f .bits) (f .covered) l (f .counter)) (written-sets f s image b (c .pageless) (s .page) at)
-      ∙ bit-same (f .bits) (f .covered) image (sets image at b) (f .counter)
-      (byte-sets image at b (f .bits + f .counter / 8) (inr (omega (arith, h .0, g .behind))))
+      bit-same (f .bits) (f .covered) image _ (f .counter)
+      (byte-written f s image b (c .pageless) (s .page) at (f .bits + f .counter / 8) (inr (omega (arith, h .0, g .behind))))
   bit-kept g (Order.Protect at) h = bit-protectEqual (f .bits) (f .covered) image at b (f .counter) (inr (omega (arith, g .short)))
   bit-kept g Order.Present h =
       bit-same (f .bits) (f .covered) image _ (f .counter)
@@ -139,9 +143,7 @@ module _ (chip : Chip) (s : Slot) (image b : List ℕ) where
   tail-kept l (Order.Read at n) h k e = refl
   tail-kept l (Order.Counter n) h k e = refl
   tail-kept l (Order.Bits at n) h k e = refl
-  tail-kept l (Order.Write at) h k e =
-      ap (λ (x : List ℕ). byte x k) (written-sets f s image b (zeroed chip l .pageless) (s .page) at)
-      ∙ byte-sets image at b k (inr (omega (arith, h .0, zeroed chip l .behind)))
+  tail-kept l (Order.Write at) h k e = byte-written f s image b (zeroed chip l .pageless) (s .page) at k (inr (omega (arith, h .0, zeroed chip l .behind)))
   tail-kept l (Order.Protect at) h k e = byte-protectEqual (f .bits) (f .covered) image at b k (inr (omega (arith, h .0, zeroed chip l .beyond)))
   tail-kept l Order.Present h k e = no-zeros (h .0) l
   tail-kept l Order.Change h k e = no-zeros (h .0) l
@@ -184,12 +186,12 @@ module _ (f : Facts) (s : Slot) (image d : List ℕ) (coded : f .coded ≡ true)
   unfolding _and_
   denied e = absurd (true≢false (sym (ap (λ (t : Bool). t and not (s .«open»)) coded ∙ ap not shut) ∙ e))
 
-  shut-decided : {o : Order} → Decided f s image d o → presents o ≡ false → imageBy f s image (body d) o ≡ image
+  shut-decided : {o : Order} → Decided f s d o → presents o ≡ false → imageBy f s image (body d) o ≡ image
   unfolding imageBy _and_
   shut-decided (refused status) ne = refl
   shut-decided (through i p) ne = go i p ne
     where
-      go : (i : Ins) → Passed f s image d i → presents (ordered i (place d) (p3 d) (byte d 5)) ≡ false → imageBy f s image (body d) (ordered i (place d) (p3 d) (byte d 5)) ≡ image
+      go : (i : Ins) → Passed f s d i → presents (ordered i (place d) (p3 d) (byte d 5)) ≡ false → imageBy f s image (body d) (ordered i (place d) (p3 d) (byte d 5)) ≡ image
       go Select p ne = refl
       go Page p ne = refl
       go Read p ne = refl
@@ -202,5 +204,5 @@ module _ (f : Facts) (s : Slot) (image d : List ℕ) (coded : f .coded ≡ true)
       go Other p ne = refl
 
   -- nothing but a presented code changes a byte
-  pub shut-kept : presents (order f s image d) ≡ false → imageBy f s image (body d) (order f s image d) ≡ image
-  shut-kept = shut-decided (decided f s image d)
+  pub shut-kept : presents (order f s d) ≡ false → imageBy f s image (body d) (order f s d) ≡ image
+  shut-kept = shut-decided (decided f s d)

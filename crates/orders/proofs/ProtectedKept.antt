@@ -8,8 +8,8 @@ use Prim.Native.Nat.{ℕ, _+_, _/_, _≤_, _<_}
 use native.Mathlib.Omega.{arith}
 use lib.ListN.{length}
 use lib.Seq.{sets}
-use lib.Dec.{leb, ltb}
-use borrow.Author.Tests.{leb-true, leb-false, ltb-true, ltb-false}
+use lib.Dec.{ltb}
+use borrow.Author.Tests.{ltb-true, ltb-false}
 use Rattle.words.specs.Choice.{_or_}
 use Rattle.words.specs.Bytes.{byte}
 use Rattle.words.proofs.Choices.{no-test, or-end}
@@ -18,25 +18,19 @@ use Rattle.chips.specs.declared.Chip.{Chip}
 use Rattle.chips.specs.declared.Facts.{Facts}
 use Rattle.chips.specs.Kinds.{facts}
 use Rattle.chips.proofs.KindLaws.{Clear, Bitted, bitted, laid}
-use Rattle.bits.specs.Bits.{carries, isProtected, firstProtected}
-use Rattle.bits.specs.declared.Place.{Place}
-use Rattle.bits.specs.declared.Place.the-variants.{At, Nowhere}
-use Rattle.bits.proofs.ProtectionLaws.{protected-beyond, first-free, byte-protectEqual}
+use Rattle.bits.specs.Bits.{carries, isProtected}
+use Rattle.bits.proofs.ProtectionLaws.{protected-beyond, byte-protectEqual}
 use Rattle.bits.proofs.BitLaws.{bit-same, protected-same, protected-equal, carries-before}
+use Rattle.stores.proofs.StoreLaws.{byte-passed}
 use Rattle.card.proofs.ImageLaws.{IsCard}
 use Rattle.codes.proofs.CodeLaws.{byte-presenting}
 use Rattle.slot.specs.declared.Slot.{Slot}
 use Rattle.steps.specs.declared.Order.{Order}
-use Rattle.steps.specs.Steps.{Ins, Select, Page, Read, Counter, Bits, Write, Protect, Present, Change, Other, place, p3, body, found, ordered, order}
+use Rattle.steps.specs.Steps.{Ins, Select, Page, Read, Counter, Bits, Write, Protect, Present, Change, Other, place, p3, body, ordered, order}
 use Rattle.steps.specs.Fits.{Fit}
 use Rattle.steps.proofs.Decisions.{Passed, Decided, refused, through, decided, fit-decided, order-fits}
 use Rattle.orders.specs.Orders.{imageBy, carriesBy}
-use Rattle.orders.proofs.ImageKept.{written-sets}
-
--- a search that found none ended nowhere
-found-none : (p : Place) → found p ≡ false → p ≡ Nowhere
-found-none (At k) e = cc
-found-none Nowhere e = refl
+use Rattle.orders.proofs.ImageKept.{written-stores, byte-written}
 
 module _ (chip : Chip) (s : Slot) (image : List ℕ) (k : ℕ) where
   abbrev f : Facts
@@ -58,20 +52,11 @@ module _ (chip : Chip) (s : Slot) (image : List ℕ) (k : ℕ) where
     with-bits : Bitted f
     with-bits = bitted chip (omega (arith, covered-by e))
 
-    -- no byte of the range of a D0 that is let through is protected
-    outside : (at n : ℕ) → found (firstProtected (f .bits) (f .covered) image at n) ≡ false → (k < at) ⊎ (at + n ≤ k)
-    outside at n h = go (leb at k) refl (ltb k (at + n)) refl
-      where
-        go : (a : Bool) → leb at k ≡ a → (b : Bool) → ltb k (at + n) ≡ b → (k < at) ⊎ (at + n ≤ k)
-        go false l b r = inl (leb-false _ _ l)
-        go true l false r = inr (ltb-false _ _ r)
-        go true l true r = no-test e (first-free (f .bits) (f .covered) image at n k (found-none _ h) (leb-true _ _ l) (ltb-true _ _ r))
-
     -- the counter is not protected
     no-counter : k ≢ f .counter
     no-counter q = no-test e (ap (isProtected (f .bits) (f .covered) image) q ∙ c .bare)
 
-    value-passed : (d : List ℕ) (i : Ins) → Passed f s image d i → Fit f (body d) (ordered i (place d) (p3 d) (byte d 5))
+    value-passed : (d : List ℕ) (i : Ins) → Passed f s d i → Fit f (body d) (ordered i (place d) (p3 d) (byte d 5))
         → byte (imageBy f s image (body d) (ordered i (place d) (p3 d) (byte d 5))) k ≡ byte image k
     unfolding imageBy
     value-passed d Select p h = refl
@@ -80,26 +65,22 @@ module _ (chip : Chip) (s : Slot) (image : List ℕ) (k : ℕ) where
     value-passed d Counter p h = refl
     value-passed d Bits p h = refl
     value-passed d Write p h =
-        ap (λ (l : List ℕ). byte l k) (written-sets f s image (body d) (with-bits .pageless) (s .page) (place d))
-        ∙ byte-sets image (place d) (body d) k (go (outside (place d) (p3 d) (p .free)))
-      where
-        go : (k < place d) ⊎ (place d + p3 d ≤ k) → (k < place d) ⊎ (place d + length (body d) ≤ k)
-        go (inl l) = inl l
-        go (inr l) = inr (omega (arith, lib.ListN.length-drop 5 d, p .long))
+        ap (λ (l : List ℕ). byte l k) (written-stores f s image (body d) (with-bits .pageless) (s .page) (place d))
+        ∙ byte-passed (f .bits) (f .covered) image (place d) (body d) k (omega (arith, h .0, with-bits .behind)) e
     value-passed d Protect p h =
         byte-protectEqual (f .bits) (f .covered) image (place d) (body d) k (inl (omega (arith, covered-by e, laid chip .kept, with-bits .behind)))
     value-passed d Present p h = byte-presenting (f .counter) (f .full) (f .code) (f .digits) image (body d) k no-counter
     value-passed d Change p h = byte-sets image (f .code) (body d) k (inl (omega (arith, covered-by e, with-bits .past (p .had))))
     value-passed d Other p h = refl
 
-    value-decided : (d : List ℕ) {o : Order} → Decided f s image d o → byte (imageBy f s image (body d) o) k ≡ byte image k
+    value-decided : (d : List ℕ) {o : Order} → Decided f s d o → byte (imageBy f s image (body d) o) k ≡ byte image k
     unfolding imageBy
     value-decided d (refused status) = refl
-    value-decided d (through i p) = value-passed d i p (fit-decided f s image d (through i p))
+    value-decided d (through i p) = value-passed d i p (fit-decided f s d (through i p))
 
     -- a protected byte keeps its value
-    pub value-kept : (d : List ℕ) → byte (imageBy f s image (body d) (order f s image d)) k ≡ byte image k
-    value-kept d = value-decided d (decided f s image d)
+    pub value-kept : (d : List ℕ) → byte (imageBy f s image (body d) (order f s d)) k ≡ byte image k
+    value-kept d = value-decided d (decided f s d)
 
   -- ---- being protected
   module _ (c : IsCard f image) where
@@ -125,8 +106,7 @@ module _ (chip : Chip) (s : Slot) (image : List ℕ) (k : ℕ) where
       protected-order b (Order.Counter n) w = sym (or-end _)
       protected-order b (Order.Bits at n) w = sym (or-end _)
       protected-order b (Order.Write at) w =
-          ap guarded (written-sets f s image b (has-bits .pageless) (s .page) at)
-          ∙ bit-stays (sets image at b) (byte-sets image at b (f .bits + k / 8) (inr (omega (arith, w .0, has-bits .behind))))
+          bit-stays _ (byte-written f s image b (has-bits .pageless) (s .page) at (f .bits + k / 8) (inr (omega (arith, w .0, has-bits .behind))))
       protected-order b (Order.Protect at) w =
           protected-equal (f .bits) (f .covered) k h (omega (arith, laid chip .kept, has-bits .behind)) image at b (omega (arith, laid chip .guards, c .long))
       protected-order b Order.Present w =
@@ -161,13 +141,13 @@ module _ (chip : Chip) (s : Slot) (image : List ℕ) (k : ℕ) where
         ∙ sym (ap (λ (x : Bool). guarded image or x) (carries-none l b o w) ∙ or-end _ ∙ protected-beyond (f .bits) (f .covered) image k l)
 
     -- a byte is protected where it was, and where a D1 carries its value
-    pub protected-by : (d : List ℕ) → let o = order f s image d in guarded (imageBy f s image (body d) o) ≡ (guarded image or carriesBy image (body d) k o)
+    pub protected-by : (d : List ℕ) → let o = order f s d in guarded (imageBy f s image (body d) o) ≡ (guarded image or carriesBy image (body d) k o)
     protected-by d = go (ltb k (f .covered)) refl
       where
-        w : Fit f (body d) (order f s image d)
-        w = order-fits f s image d
+        w : Fit f (body d) (order f s d)
+        w = order-fits f s d
 
         go : (b : Bool) → ltb k (f .covered) ≡ b
-            → guarded (imageBy f s image (body d) (order f s image d)) ≡ (guarded image or carriesBy image (body d) k (order f s image d))
-        go true h = protected-order (ltb-true _ _ h) (body d) (order f s image d) w
-        go false h = beyond (ltb-false _ _ h) (body d) (order f s image d) w
+            → guarded (imageBy f s image (body d) (order f s d)) ≡ (guarded image or carriesBy image (body d) k (order f s d))
+        go true h = protected-order (ltb-true _ _ h) (body d) (order f s d) w
+        go false h = beyond (ltb-false _ _ h) (body d) (order f s d) w

@@ -112,23 +112,23 @@ module _ (chip : Chip) (s : Slot) (image d : List ℕ) (holds : s .holds ≡ Car
       (chosen t))
       (λ no. closed-sound s image on _ r)
 
-  pub decided-sound : {o : Order} → Decided (facts chip) s image d o → After o
+  pub decided-sound : {o : Order} → Decided (facts chip) s d o → After o
   unfolding slotBy imageBy _and_
   decided-sound (refused status) = r
   decided-sound (through i p) = go i p
     where
-      go : (i : Ins) → Passed (facts chip) s image d i → After (ordered i (place d) (p3 d) (byte d 5))
+      go : (i : Ins) → Passed (facts chip) s d i → After (ordered i (place d) (p3 d) (byte d 5))
       go Select p = subst (λ (t : ℕ). Sound (selecting t s) image) (ap ownType holds) (selecting-sound s image on image r)
       go Page p = paged-sound s image (2 ^ byte d 5) (page-sized (byte d 5) (p .valued)) (ap occupied holds) r
       go Read p = r
       go Counter p = r
       go Bits p = r
-      go Write p = moved (Order.Write (place d)) (fit-decided (facts chip) s image d (through Write p)) refl
-      go Protect p = moved (Order.Protect (place d)) (fit-decided (facts chip) s image d (through Protect p)) refl
+      go Write p = moved (Order.Write (place d)) (fit-decided (facts chip) s d (through Write p)) refl
+      go Protect p = moved (Order.Protect (place d)) (fit-decided (facts chip) s d (through Protect p)) refl
       go Present p = presented (p .had) (p .ready)
-      go Change p = moved Order.Change (fit-decided (facts chip) s image d (through Change p)) refl
+      go Change p = moved Order.Change (fit-decided (facts chip) s d (through Change p)) refl
       go Other p = r
 
   -- a command of an active slot leaves a sound record
-  pub order-sound : After (order (facts chip) s image d)
-  order-sound = decided-sound (decided (facts chip) s image d)
+  pub order-sound : After (order (facts chip) s d)
+  order-sound = decided-sound (decided (facts chip) s d)

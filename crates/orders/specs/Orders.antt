@@ -5,14 +5,15 @@ use mathlib.Core.Bool.{Bool, false}
 use mathlib.Core.List.{List, [], _∷_, _++_}
 use lib.ListN.{length}
 use lib.Seq.{sets}
-use Rattle.words.specs.Choice.{_⇒_⁏_}
+use Rattle.words.specs.Choice.{_⇒_⁏_, _or_, _is_, _isnt_}
 use Rattle.words.specs.Bytes.{byte, over}
 use Rattle.chips.specs.declared.Facts.{Facts}
 use Rattle.bits.specs.Bits.{carries, protectEqual, packedBytes}
 use Rattle.slot.specs.declared.Slot.{Slot}
 use Rattle.slot.specs.Slots.{selecting, paged, opened, closed}
 use Rattle.reads.specs.Reads.{bytesRead, counterRead}
-use Rattle.pages.specs.Pages.{written}
+use Rattle.pages.specs.Pages.{pageWrite}
+use Rattle.stores.specs.Stores.{storing, endsEqual}
 use Rattle.codes.specs.Codes.{presenting, accepts}
 use Rattle.steps.specs.declared.Order.{Order}
 use Rattle.orders.specs.declared.Told.{Told}
@@ -35,6 +36,21 @@ afterCode f image guess = presenting (f .counter) (f .full) (f .code) (f .digits
 abbrev pub rightCode : Facts → List ℕ → List ℕ → Bool
 rightCode f image guess = accepts (f .counter) (f .full) (f .code) (f .digits) image guess
 
+-- D0 sends b from `at` on, the reader page being `page`: "on I2C" in pages; 02: "store every unprotected byte of the range and pass over the
+-- rest"
+unfoldable pub written : Facts → ℕ → List ℕ → ℕ → List ℕ → List ℕ
+written f page image at b = f .page isnt 0 ⇒ pageWrite page (f .page) image at at b ⁏ storing (f .bits) (f .covered) image at b
+
+-- 02: "when some byte ended different on a card with protection bits the answer is 65 81", of the image afterwards
+abbrev pub unequal : List ℕ
+unequal = 0x65 ∷ 0x81 ∷ []
+
+abbrev pub reported : Facts → List ℕ → ℕ → List ℕ → Bool
+reported f after at b = f .covered is 0 or endsEqual after at b
+
+unfoldable pub writtenWord : Facts → List ℕ → ℕ → List ℕ → List ℕ
+writtenWord f after at b = reported f after at b ⇒ done ⁏ unequal
+
 -- with b the data after P3: what is said,
 unfoldable pub saidBy : Facts → Slot → List ℕ → List ℕ → Order → List ℕ
 saidBy f s image b (Order.Refuse status) = wordOf status
@@ -43,7 +59,7 @@ saidBy f s image b (Order.Page p) = done
 saidBy f s image b (Order.Read at n) = bytesRead (f .code) (f .digits) (s .«open») image at n ++ done
 saidBy f s image b (Order.Counter n) = counterRead (f .counter) image n ++ done
 saidBy f s image b (Order.Bits at n) = packedBytes (f .bits) (f .covered) image at n ++ done
-saidBy f s image b (Order.Write at) = done
+saidBy f s image b (Order.Write at) = writtenWord f (written f (s .page) image at b) at b
 saidBy f s image b (Order.Protect at) = done
 saidBy f s image b Order.Present = 0x90 ∷ byte (afterCode f image b) (f .counter) ∷ []
 saidBy f s image b Order.Change = done
@@ -56,7 +72,7 @@ imageBy f s image b (Order.Page p) = image
 imageBy f s image b (Order.Read at n) = image
 imageBy f s image b (Order.Counter n) = image
 imageBy f s image b (Order.Bits at n) = image
-imageBy f s image b (Order.Write at) = written (s .page) (f .page) image at b
+imageBy f s image b (Order.Write at) = written f (s .page) image at b
 imageBy f s image b (Order.Protect at) = protectEqual (f .bits) (f .covered) image at b
 imageBy f s image b Order.Present = afterCode f image b
 imageBy f s image b Order.Change = sets image (f .code) b
@@ -79,7 +95,7 @@ performed f s image b o = record { said = saidBy f s image b o; slot = slotBy f 
 
 -- a command, from the pseudo-APDU
 unfoldable pub commanded : Facts → Slot → List ℕ → List ℕ → Deed
-commanded f s image d = performed f s image (body d) (order f s image d)
+commanded f s image d = performed f s image (body d) (order f s d)
 
 -- What a handler leaves behind, where d is what is to be done: the length of what it said, the next slot, the image as it left it, and
 -- the lent buffer, what was said laid over what it held.

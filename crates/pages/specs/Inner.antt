@@ -3,8 +3,8 @@ use mathlib.Core.Path.{_≡_}
 use Prim.Native.Nat.{ℕ, _%_, _<_}
 use Rattle.words.specs.Bounds.{addresses}
 
--- an image of n bytes is whole chip pages, and its numbers are small enough not to overflow; a chip page of 0 is none
+-- an image of n bytes is whole chip pages, and its numbers are small enough not to overflow
 pub record OnPages (chip n : ℕ) : Type 0 where
-  pub whole : 0 < chip → n % chip ≡ 0
+  pub whole : n % chip ≡ 0
   pub page : chip < addresses
   pub image : n < addresses

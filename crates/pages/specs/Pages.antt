@@ -1,8 +1,7 @@
--- D0: bytes stored, or on I2C written in pages, cut at the reader page and each cut running round on the chip page.
+-- D0 on I2C: bytes written in pages, cut at the reader page and each cut running round on the chip page.
 use Prim.Native.Nat.{ℕ, _+_, _-_, _%_}
 use mathlib.Core.List.{List, [], _∷_}
 use lib.ListN.{set}
-use lib.Seq.{sets}
 use Rattle.words.specs.Choice.{_⇒_⁏_, _is_}
 
 -- "the data are cut at every card address that is a multiple of the reader page": the start of the cut that address a is in, the cut of
@@ -19,8 +18,3 @@ lands chip c a = c - c % chip + (c % chip + (a - c)) % chip
 unfoldable pub pageWrite : ℕ → ℕ → List ℕ → ℕ → ℕ → List ℕ → List ℕ
 pageWrite reader chip image c a [] = image
 pageWrite reader chip image c a (v ∷ vs) = pageWrite reader chip (set image (lands chip (cutStart reader c a) a) v) (cutStart reader c a) (a + 1) vs
-
--- "D0 on a code card stores the bytes", and 02 on a card without a code too; "D0 on I2C" writes pages, `chip` being the chip page, 0 where
--- there is none
-unfoldable pub written : ℕ → ℕ → List ℕ → ℕ → List ℕ → List ℕ
-written reader chip image at vs = chip is 0 ⇒ sets image at vs ⁏ pageWrite reader chip image at at vs

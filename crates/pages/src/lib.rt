@@ -8,7 +8,7 @@ ghost use Prim.Native.Nat.{_+_, _%_, _≤_, _<_};
 ghost use lib.ListN.{length};
 ghost use lib.Seq.{sets};
 ghost use Rattle.words.specs.Bounds.{addresses};
-ghost use Rattle.pages.specs.Pages.{cutStart, lands, pageWrite, written};
+ghost use Rattle.pages.specs.Pages.{cutStart, lands, pageWrite};
 ghost use Rattle.pages.specs.Inner.{OnPages};
 
 // The data stored from `at` on.
@@ -55,16 +55,11 @@ fn write_round(image: &mut [u8], at: usize, data: &[u8], reader: usize, chip: us
     }
 }
 
-// The data written from `at` on: stored on a card without pages, and in pages on one with them. Where the reader page divides the chip
-// page nothing runs round, and they are stored too.
+// The data written from `at` on in pages. Where the reader page divides the chip page nothing runs round, and they are stored.
 pub fn write(image: &mut [u8], at: usize, data: &[u8], reader: usize, chip: usize)
-    requires { ⌜ (at + length (now «data») ≤ length (now image)) × (0 < reader) × OnPages chip (length (now image)) ⌝ }
-    ensures { λ _. ⌜ now (image .exit) ≡ written reader chip (now (image .entry)) at (now («data» .entry)) ⌝ }
+    requires { ⌜ (at + length (now «data») ≤ length (now image)) × (0 < reader) × (0 < chip) × OnPages chip (length (now image)) ⌝ }
+    ensures { λ _. ⌜ now (image .exit) ≡ pageWrite reader chip (now (image .entry)) at at (now («data» .entry)) ⌝ }
 {
-    if chip == 0 {
-        store(image, at, data);
-        return;
-    }
     if chip % reader == 0 {
         store(image, at, data);
         return;

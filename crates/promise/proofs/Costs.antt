@@ -80,7 +80,7 @@ module _ (chip : Chip) (c : facts chip .coded ≡ true) (s : Slot) (image : List
       let t = and-true _ _ e in
       let u = and-true _ _ (t .1) in
       both (heard-again e) (both (u .0)
-      (ap presents (present-again f s (then .slot) image (then .image) (apdu (m .message)) (reached-slot e .1) (u .1))))
+      (ap presents (present-again f s (then .slot) (apdu (m .message)) (reached-slot e .1) (u .1))))
 
   -- a wrong code that reached the card reaches it again when the same message is sent again, and is wrong again
   pub wrong-again : eventOf f s image m ≡ wrong → eventOf f (then .slot) (then .image) m ≡ wrong
@@ -133,7 +133,7 @@ module _ (f : Facts) (s : Slot) (image : List ℕ) (m : Sent) where
       go false h = unheard-none h
       go true h = unreached-none f s image m (sym (and-holds h (and-fails _ e)))
 
-  pub other-none : presents (order f s image (apdu (m .message))) ≡ false → eventOf f s image m ≡ none
+  pub other-none : presents (order f s (apdu (m .message))) ≡ false → eventOf f s image m ≡ none
   unfolding reached
   other-none e = go (heard s image m) refl (transfers (requested m)) refl
     where
@@ -142,5 +142,5 @@ module _ (f : Facts) (s : Slot) (image : List ℕ) (m : Sent) where
       go true h false t = untransferred-none t
       go true h true t = unreached-none f s image m (sym (and-holds h (and-holds t (sym e))))
 
-  pub refused-none : (status : Status) → order f s image (apdu (m .message)) ≡ Order.Refuse status → eventOf f s image m ≡ none
+  pub refused-none : (status : Status) → order f s (apdu (m .message)) ≡ Order.Refuse status → eventOf f s image m ≡ none
   refused-none status e = other-none (ap presents e)

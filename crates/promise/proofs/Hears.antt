@@ -1,17 +1,14 @@
 -- From the insertion on, whether a message is heard is its room, its length and that it has no fault, and whether a code reaches the card is
 -- told by the message and by what the slot says of power and type: the history looks at no byte of the image but the code's.
 use Prim.Native.Nat.{ℕ}
-use mathlib.Core.Path.{_≡_, refl, ap, _∙_}
-use mathlib.Core.Bool.{Bool, true, false}
-use mathlib.Core.List.{List, []}
+use mathlib.Core.Path.{_≡_, ap}
+use mathlib.Core.Bool.{Bool}
+use mathlib.Core.List.{List}
 use Rattle.words.specs.Choice.{_and_}
-use Rattle.words.proofs.Choices.{no-test}
 use Rattle.chips.specs.declared.Chip.{Chip}
-use Rattle.chips.specs.declared.Facts.{Facts}
 use Rattle.chips.specs.Kinds.{facts}
 use Rattle.slot.specs.declared.Slot.{Slot}
 use Rattle.steps.specs.Steps.{order, presents}
-use Rattle.steps.proofs.PresentAgain.{present-again}
 use Rattle.faults.specs.Faults.{apdu}
 use Rattle.reader.specs.Runs.{Sent}
 use Rattle.reader.specs.Proper.{Proper}
@@ -25,16 +22,6 @@ pub proper-heard : (s : Slot) (image : List ℕ) (m : Sent) → Proper s image �
 unfolding heard unfaulted _and_
 proper-heard s image m p = cc
 
--- command 20 is let through or not whatever the image holds
-presents-blind : (f : Facts) (s : Slot) (image image′ d : List ℕ) → presents (order f s image d) ≡ presents (order f s image′ d)
-presents-blind f s image image′ d = go (presents (order f s image d)) refl (presents (order f s image′ d)) refl
-  where
-    go : (a : Bool) → presents (order f s image d) ≡ a → (b : Bool) → presents (order f s image′ d) ≡ b → a ≡ b
-    go true e true h = refl
-    go true e false h = no-test (ap presents (present-again f s s image image′ d refl e)) h
-    go false e true h = no-test (ap presents (present-again f s s image′ image d refl h)) e
-    go false e false h = refl
-
 module _ (chip : Chip) (s : Slot) (kind : ℕ) (image : List ℕ) (p : PutIn chip s kind image) (ms : List Sent) (m : Sent) where
   abbrev now : Slot
   now = runFrom s kind image ms .slot
@@ -45,8 +32,6 @@ module _ (chip : Chip) (s : Slot) (kind : ℕ) (image : List ℕ) (p : PutIn chi
   pub heard-alone : heard now holds m ≡ unfaulted now m
   heard-alone = proper-heard now holds m (run-proper _ _ ms (insertion-proper s kind image (p .accepted)))
 
-  pub reached-alone : reached (facts chip) now holds m ≡ (unfaulted now m and transfers (requested m) and presents (order (facts chip) now [] (apdu (m .message))))
+  pub reached-alone : reached (facts chip) now holds m ≡ (unfaulted now m and transfers (requested m) and presents (order (facts chip) now (apdu (m .message))))
   unfolding reached
-  reached-alone =
-      ap (λ (b : Bool). b and transfers (requested m) and presents (order (facts chip) now holds (apdu (m .message)))) heard-alone
-      ∙ ap (λ (b : Bool). unfaulted now m and transfers (requested m) and b) (presents-blind (facts chip) now holds [] (apdu (m .message)))
+  reached-alone = ap (λ (b : Bool). b and transfers (requested m) and presents (order (facts chip) now (apdu (m .message)))) heard-alone

@@ -15,3 +15,5 @@ pub mod Parameters
 pub mod Protected
 pub mod Plain
 pub mod Guarded
+pub mod Stored
+pub mod Wrote

@@ -53,7 +53,7 @@ deed-set SlotStatus h s image m e on = refl
 deed-set GetParameters h s image m e on = refl
 deed-set ResetParameters h s image m e on = refl
 deed-set Transfer Empty s image m e on = refl
-deed-set Transfer (Card chip) s image m e on = slotBy-set (facts chip) s image (body (apdu m)) (order (facts chip) s image (apdu m))
+deed-set Transfer (Card chip) s image m e on = slotBy-set (facts chip) s image (body (apdu m)) (order (facts chip) s (apdu m))
 deed-set Unsupported h s image m e on = refl
 
 module _ (s : Slot) (image : List ℕ) (m : Sent) where

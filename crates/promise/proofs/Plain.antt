@@ -118,7 +118,7 @@ module _ (chip : Chip) (k : ℕ) (tail : facts chip .zeros ≤ k) where
   deed-zeros GetParameters s image m c = refl
   deed-zeros ResetParameters s image m c = refl
   deed-zeros Transfer s image m c =
-      zeros-kept chip s image (body (apdu m)) (c .long) (order (facts chip) s image (apdu m)) (order-fits (facts chip) s image (apdu m)) k tail
+      zeros-kept chip s image (body (apdu m)) (c .long) (order (facts chip) s (apdu m)) (order-fits (facts chip) s (apdu m)) k tail
   deed-zeros Unsupported s image m c = refl
 
   pub message-zeros : (s : Slot) (image : List ℕ) (m : Sent) → s .holds ≡ Card chip → byte (sending s image m .image) k ≡ byte image k

@@ -62,7 +62,7 @@ module _ (chip : Chip) (k : ℕ) (s : Slot) (image : List ℕ) (m : Sent) (holds
 
   -- whether it is protected
   deed-protects : (r : Request) → IsCard f image
-      → protectedIn f (deed r (Card chip) s image (m .message) .image) k ≡ (protectedIn f image k or transfers r and carriesBy image (body d) k (order f s image d))
+      → protectedIn f (deed r (Card chip) s image (m .message) .image) k ≡ (protectedIn f image k or transfers r and carriesBy image (body d) k (order f s d))
   unfolding deed commanded performed _and_
   deed-protects SetParameters c = sym (or-end _)
   deed-protects PowerOn c = sym (or-end _)
@@ -83,7 +83,7 @@ module _ (chip : Chip) (k : ℕ) (s : Slot) (image : List ℕ) (m : Sent) (holds
   came-protects (down r h) = unheard h
   came-protects (failed p h) = unheard h
   came-protects (obeyed h) =
-      let rest = transfers (requested m) and carriesBy image (body d) k (order f s image d) in
+      let rest = transfers (requested m) and carriesBy image (body d) k (order f s d) in
       subst⁻¹ (λ (x : Holds). protectedIn f (deed (requested m) x s image (m .message) .image) k ≡ (protectedIn f image k or rest)) holds
       (deed-protects (requested m) (proper-card chip s image holds (heard-proper s image m h)))
       ∙ ap (λ (b : Bool). protectedIn f image k or b) (and-holds h refl)

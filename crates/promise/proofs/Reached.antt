@@ -54,7 +54,7 @@ module _ (chip : Chip) (s : Slot) (image : List ℕ) (m : Sent) (holds : s .hold
 
   -- a transfer that is heard does what its order says
   pub transfer-does : heard s image m ≡ true → requested m ≡ Transfer
-      → sending s image m ≡ answered Transfer (m .message) Fault.Clear (performed (facts chip) s image (body apart) (order (facts chip) s image apart))
+      → sending s image m ≡ answered Transfer (m .message) Fault.Clear (performed (facts chip) s image (body apart) (order (facts chip) s apart))
   unfolding deed commanded
   transfer-does h t =
       let c : faulted s m ≡ Fault.Clear = clear-is (faulted s m) (heard-clear s image m h) in
@@ -74,7 +74,7 @@ module _ (chip : Chip) (s : Slot) (image : List ℕ) (m : Sent) (holds : s .hold
       ∙ ap (λ (o : Order). answered Transfer (m .message) Fault.Clear (performed (facts chip) s image (body apart) o)) (presents-is _ (u .1))
 
   -- what no code reached the card by leaves the counter
-  deed-keeps : (r : Request) → facts chip .coded ≡ true → (transfers r ≡ true → presents (order (facts chip) s image apart) ≡ false)
+  deed-keeps : (r : Request) → facts chip .coded ≡ true → (transfers r ≡ true → presents (order (facts chip) s apart) ≡ false)
       → byte (deed r (Card chip) s image (m .message) .image) (facts chip .counter) ≡ byte image (facts chip .counter)
   unfolding deed commanded performed
   deed-keeps SetParameters c ne = refl
@@ -84,7 +84,7 @@ module _ (chip : Chip) (s : Slot) (image : List ℕ) (m : Sent) (holds : s .hold
   deed-keeps GetParameters c ne = refl
   deed-keeps ResetParameters c ne = refl
   deed-keeps Transfer c ne =
-      counter-kept (facts chip) (coded chip c) s image (body apart) (order (facts chip) s image apart) (order-fits (facts chip) s image apart) (ne refl)
+      counter-kept (facts chip) (coded chip c) s image (body apart) (order (facts chip) s apart) (order-fits (facts chip) s apart) (ne refl)
   deed-keeps Unsupported c ne = refl
 
   pub unreached-keeps : facts chip .coded ≡ true → reached (facts chip) s image m ≡ false

@@ -31,7 +31,7 @@ module _ (chip : Chip) (s : Slot) (image : List ℕ) (m : Sent) (holds : s .hold
       (reached-does chip s image m holds e) refl
 
   -- B1 reads the counter that stands in the image, and leaves it
-  pub counter-told : (n : ℕ) → heard s image m ≡ true → requested m ≡ Transfer → order (facts chip) s image (apdu (m .message)) ≡ Order.Counter n
+  pub counter-told : (n : ℕ) → heard s image m ≡ true → requested m ≡ Transfer → order (facts chip) s (apdu (m .message)) ≡ Order.Counter n
       → (sending s image m .answer ≡ answer Transfer (m .message) Fault.Clear (sending s image m .slot)
       (byte image (facts chip .counter) ∷ replicate (n - 1) 0 ++ (0x90 ∷ 0x00 ∷ [])))
       × (sending s image m .image ≡ image)

@@ -76,7 +76,7 @@ abbrev pub asks : Sent
 asks = record { message = readCounter; room = leastRoom }
 
 pub counter-asked : (heard (burned .slot) (burned .image) asks ≡ true) × (requested asks ≡ Transfer)
-    × (order (facts Sle4442) (burned .slot) (burned .image) (apdu readCounter) ≡ Order.Counter 4)
+    × (order (facts Sle4442) (burned .slot) (apdu readCounter) ≡ Order.Counter 4)
 unfolding rules image4442 lent transfer heard
 counter-asked = (refl, refl, refl)
 

@@ -54,16 +54,16 @@ module _ (chip : Chip) (c : facts chip .coded ≡ true) (s : Slot) (image : List
           let same : byte image (f .counter) ≡ f .full = eqb-true _ _ (and-true _ _ full .1) in
           absurd (omega (arith, same, counter-zero k, coded chip c .opens))
 
-  order-zero : (d : List ℕ) → Proper s image → imageBy f s image (body d) (order f s image d) ≡ image
+  order-zero : (d : List ℕ) → Proper s image → imageBy f s image (body d) (order f s d) ≡ image
   unfolding imageBy
-  order-zero d p = go (presents (order f s image d)) refl
+  order-zero d p = go (presents (order f s d)) refl
     where
       k : IsCard f image
       k = proper-card chip s image holds p
 
-      go : (b : Bool) → presents (order f s image d) ≡ b → imageBy f s image (body d) (order f s image d) ≡ image
+      go : (b : Bool) → presents (order f s d) ≡ b → imageBy f s image (body d) (order f s d) ≡ image
       go true e =
-          ap (imageBy f s image (body d)) (presents-is (order f s image d) e)
+          ap (imageBy f s image (body d)) (presents-is (order f s d) e)
           ∙ presenting-none (f .counter) (f .full) (f .code) (f .digits) image (body d) (counter-zero k)
       go false e = shut-kept f s image d c (shut k (sound-parts s image (p .sound))) e
 

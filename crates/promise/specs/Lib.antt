@@ -4,3 +4,4 @@ pub mod Visits
 pub mod Parameters
 pub mod Protected
 pub mod Guarded
+pub mod Stored

@@ -25,7 +25,7 @@ unfoldable pub protects : Facts → Slot → List ℕ → Sent → ℕ → Bool
 protects f s image m k =
     heard s image m
     and transfers (requested m)
-    and carriesBy image (body (apdu (m .message))) k (order f s image (apdu (m .message)))
+    and carriesBy image (body (apdu (m .message))) k (order f s (apdu (m .message)))
 
 -- some message of a run does, each meeting the slot and the image that the last one left
 unfoldable pub someProtects : Facts → Slot → List ℕ → List Sent → ℕ → Bool

@@ -45,7 +45,7 @@ deed-holds SlotStatus h s image m = refl
 deed-holds GetParameters h s image m = refl
 deed-holds ResetParameters h s image m = refl
 deed-holds Transfer Empty s image m = refl
-deed-holds Transfer (Card chip) s image m = slotBy-holds (facts chip) s image (body (apdu m)) (order (facts chip) s image (apdu m))
+deed-holds Transfer (Card chip) s image m = slotBy-holds (facts chip) s image (body (apdu m)) (order (facts chip) s (apdu m))
 deed-holds Unsupported h s image m = refl
 
 came-holds : (s : Slot) (image : List ℕ) (m : Sent) {o : Outcome} → Came s image m o → o .slot .holds ≡ s .holds
@@ -85,14 +85,14 @@ pub proper-card : (chip : Chip) (s : Slot) (image : List ℕ) → s .holds ≡ C
 proper-card chip s image e p = card-parts (facts chip) image (sym (ap (λ (h : Holds). imageIsCard h image) e) ∙ p .card)
 
 command-proper : (chip : Chip) (s : Slot) (image d : List ℕ) → s .holds ≡ Card chip → s .active ≡ true → Proper s image
-    → Proper (slotBy (facts chip) s image (body d) (order (facts chip) s image d)) (imageBy (facts chip) s image (body d) (order (facts chip) s image d))
+    → Proper (slotBy (facts chip) s image (body d) (order (facts chip) s d)) (imageBy (facts chip) s image (body d) (order (facts chip) s d))
 command-proper chip s image d e on p =
-    let o = order (facts chip) s image d in
+    let o = order (facts chip) s d in
     let image′ : List ℕ = imageBy (facts chip) s image (body d) o in
     let k : IsCard (facts chip) image = proper-card chip s image e p in
     record {
       card = ap (λ (h : Holds). imageIsCard h image′) (slotBy-holds (facts chip) s image (body d) o ∙ e)
-          ∙ card-whole (facts chip) image′ (card-kept chip s image (body d) o k (order-fits (facts chip) s image d));
+          ∙ card-whole (facts chip) image′ (card-kept chip s image (body d) o k (order-fits (facts chip) s d));
       sound = sound-whole _ _ (order-sound chip s image d e on k (sound-parts s image (p .sound)));
     }
 

@@ -43,8 +43,8 @@ module _ (s : Slot) (image m : List ℕ) (byte : p3 (apdu m) < 256) where
   deed-short ResetParameters h e = omega (arith, bytes-short defaultSet)
   deed-short Transfer Empty e = omega arith
   deed-short Transfer (Card chip) e =
-      said-short chip s image (body (apdu m)) (order (facts chip) s image (apdu m)) (card-parts (facts chip) image e .long)
-      (order-fits (facts chip) s image (apdu m)) (order-short (facts chip) s image (apdu m) byte)
+      said-short chip s image (body (apdu m)) (order (facts chip) s (apdu m)) (card-parts (facts chip) image e .long)
+      (order-fits (facts chip) s (apdu m)) (order-short (facts chip) s (apdu m) byte)
   deed-short Unsupported h e = omega arith
 
   answer-whole : (r : Request) (f : Fault) (t : Slot) (said : List ℕ) → length said ≤ 257 → length (answer r m f t said) ≤ longestAnswer

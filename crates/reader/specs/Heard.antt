@@ -47,4 +47,4 @@ unfoldable pub reached : Facts → Slot → List ℕ → Sent → Bool
 reached f s image m =
     heard s image m
     and transfers (requested m)
-    and presents (order f s image (apdu (m .message)))
+    and presents (order f s (apdu (m .message)))

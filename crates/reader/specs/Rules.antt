@@ -4,16 +4,17 @@ use lib.Count.{trailingZeros}
 use Rattle.words.specs.Choice.{_⇒_⁏_, _and_, _or_, _means_}
 use Rattle.words.specs.Bytes.{blank, same, fourBytes, fourAt, numberIn, byteOf, lowFirst, over, series}
 use Rattle.chips.specs.Kinds.{chipAmong, chipOf}
-use Rattle.bits.specs.Bits.{cleared, protectionBit, isProtected, firstProtected, protecting, protectEqual, packed, packedBytes}
+use Rattle.bits.specs.Bits.{cleared, protectionBit, isProtected, protecting, protectEqual, packed, packedBytes}
 use Rattle.codes.specs.Counters.{spent}
 use Rattle.codes.specs.Codes.{spending, judging, presenting, accepts}
-use Rattle.pages.specs.Pages.{cutStart, lands, pageWrite, written}
+use Rattle.pages.specs.Pages.{cutStart, lands, pageWrite}
+use Rattle.stores.specs.Stores.{storing, endsEqual}
 use Rattle.reads.specs.Reads.{visible, bytesRead, counterRead}
 use Rattle.sets.specs.Sets.{setWith, defaultSet, lengthOf, fitsLength, longWait, faultAt, setOf, takes}
 use Rattle.card.specs.Images.{isCard}
 use Rattle.sound.specs.Sound.{pageSize, emptySound, idleSound, typeSound, openSound, setSound, sound}
 use Rattle.steps.specs.Steps.{insOf, steps, order}
-use Rattle.orders.specs.Orders.{saidBy, imageBy, slotBy, performed, commanded}
+use Rattle.orders.specs.Orders.{written, writtenWord, saidBy, imageBy, slotBy, performed, commanded}
 use Rattle.faults.specs.Faults.{requestOf, faultOf}
 use Rattle.frame.specs.Answers.{cardState, bStatus, byte9, header, answer}
 use Rattle.frame.specs.Exchange.{reset, deed, replied, reply, served, exchange, insertedAs, insertion}
@@ -21,8 +22,8 @@ use Rattle.reader.specs.Runs.{run}
 
 unfoldable pub rules : ℕ
 unfolding trailingZeros _⇒_⁏_ _and_ _or_ _means_ blank same fourBytes fourAt numberIn byteOf lowFirst over series chipAmong chipOf spent cleared protectionBit isProtected
-    firstProtected protecting protectEqual packed packedBytes setWith defaultSet lengthOf fitsLength longWait
+    protecting protectEqual packed packedBytes setWith defaultSet lengthOf fitsLength longWait
     faultAt setOf takes isCard pageSize emptySound idleSound typeSound openSound setSound sound visible bytesRead
-    counterRead cutStart lands pageWrite written spending judging presenting accepts insOf steps order saidBy imageBy slotBy performed commanded reset
+    counterRead cutStart lands pageWrite storing endsEqual spending judging presenting accepts insOf steps order written writtenWord saidBy imageBy slotBy performed commanded reset
     requestOf faultOf cardState bStatus byte9 header answer deed replied reply served exchange insertedAs insertion run
 rules = 0

@@ -1,5 +1,5 @@
--- A command 20 that is let through once is let through again: the steps look at neither the image, nor whether the card is open, but only
--- at the selected type.
+-- A command 20 that is let through once is let through again: the steps do not look at whether the card is open, but only at the selected
+-- type.
 use mathlib.Core.Path.{_≡_, refl, sym, ap, _∙_, subst⁻¹}
 use mathlib.Core.Bool.{true, false≢true}
 use mathlib.Core.List.{List}
@@ -38,9 +38,9 @@ ordered-presents Present at n v e = refl
 ordered-presents Change at n v e = absurd (false≢true e)
 ordered-presents Other at n v e = absurd (false≢true e)
 
-module _ (f : Facts) (s s′ : Slot) (image image′ d : List ℕ) (type : s′ .selected ≡ s .selected) where
+module _ (f : Facts) (s s′ : Slot) (d : List ℕ) (type : s′ .selected ≡ s .selected) where
   -- what it passed it passes again
-  passed-again : Passed f s image d Present → Passed f s′ image′ d Present
+  passed-again : Passed f s d Present → Passed f s′ d Present
   passed-again q = record {
     five = q .five;
     class = q .class;
@@ -53,12 +53,11 @@ module _ (f : Facts) (s s′ : Slot) (image image′ d : List ℕ) (type : s′ 
     placed = q .placed;
     valued = q .valued;
     allowed = sym (and-fails _ refl);
-    free = refl;
   }
 
-  pub present-again : presents (order f s image d) ≡ true → order f s′ image′ d ≡ Order.Present
-  present-again e = go (decided f s image d) e
+  pub present-again : presents (order f s d) ≡ true → order f s′ d ≡ Order.Present
+  present-again e = go (decided f s d) e
     where
-      go : {o : Order} → Decided f s image d o → presents o ≡ true → order f s′ image′ d ≡ Order.Present
+      go : {o : Order} → Decided f s d o → presents o ≡ true → order f s′ d ≡ Order.Present
       go (refused status) h = absurd (false≢true h)
-      go (through i q) h = passed-order (passed-again (subst⁻¹ (Passed f s image d) (sym (ordered-presents i _ _ _ h)) q))
+      go (through i q) h = passed-order (passed-again (subst⁻¹ (Passed f s d) (sym (ordered-presents i _ _ _ h)) q))

@@ -1,4 +1,4 @@
--- What performing an order may count on: these are no rules. Every order that the ten steps end in fits, and is short where P3 is a byte
+-- What performing an order may count on: these are no rules. Every order that the nine steps end in fits, and is short where P3 is a byte
 -- (proofs/Decisions).
 use mathlib.Core.Path.{_≡_}
 use Prim.Native.Nat.{ℕ, _+_, _*_, _≤_, _<_}

@@ -1,4 +1,4 @@
--- "Commands inside 6Fh": ten steps from the pseudo-APDU to an order.
+-- "Commands inside 6Fh": nine steps from the pseudo-APDU to an order. 01 has a tenth; 02: "step 10 goes".
 use Prim.Native.Nat.{ℕ, _+_, _*_, _^_}
 use mathlib.Core.Bool.{Bool, true, false, not}
 use mathlib.Core.List.{List, _∷_, []}
@@ -7,9 +7,6 @@ use lib.Dec.{ltb, leb}
 use Rattle.words.specs.Choice.{_⇒_⁏_, _and_, _or_, _is_, _isnt_}
 use Rattle.words.specs.Bytes.{byte}
 use Rattle.chips.specs.declared.Facts.{Facts}
-use Rattle.bits.specs.Bits.{firstProtected}
-use Rattle.bits.specs.declared.Place.{Place}
-use Rattle.bits.specs.declared.Place.the-variants.{At, Nowhere}
 use Rattle.slot.specs.declared.Slot.{Slot}
 use Rattle.steps.specs.declared.Status.{Status}
 use Rattle.steps.specs.declared.Order.{Order}
@@ -168,23 +165,6 @@ needsOpen Present = false
 needsOpen Change = true
 needsOpen Other = false
 
--- step 10: "D0 on a code card where any byte of the range is protected"; 02: on a card without a code too
-abbrev pub found : Place → Bool
-found (At k) = true
-found Nowhere = false
-
-abbrev pub hitsProtected : Facts → Ins → List ℕ → ℕ → ℕ → Bool
-hitsProtected f Select image at n = false
-hitsProtected f Page image at n = false
-hitsProtected f Read image at n = false
-hitsProtected f Counter image at n = false
-hitsProtected f Bits image at n = false
-hitsProtected f Write image at n = found (firstProtected (f .bits) (f .covered) image at n)
-hitsProtected f Protect image at n = false
-hitsProtected f Present image at n = false
-hitsProtected f Change image at n = false
-hitsProtected f Other image at n = false
-
 -- what is left is done; "01: page 8, 16, 32, 64, 128 for 03h..07h"
 abbrev pub ordered : Ins → ℕ → ℕ → ℕ → Order
 ordered Select at n v = Order.Select
@@ -198,9 +178,9 @@ ordered Present at n v = Order.Present
 ordered Change at n v = Order.Change
 ordered Other at n v = Order.Refuse Status.Instruction
 
--- steps 3 to 10, INS being i: n is the data length, at is P1P2, p is P3 and v the byte after it
-unfoldable pub steps : Facts → Slot → List ℕ → ℕ → ℕ → ℕ → ℕ → Ins → Order
-steps f s image n at p v i =
+-- steps 3 to 9, INS being i: n is the data length, at is P1P2, p is P3 and v the byte after it
+unfoldable pub steps : Facts → Slot → ℕ → ℕ → ℕ → ℕ → Ins → Order
+steps f s n at p v i =
     not (known i) ⇒ Order.Refuse Status.Instruction
     ⁏ needsType i and s .selected is 0 ⇒ Order.Refuse Status.Unselected
     ⁏ not (has f i) ⇒ Order.Refuse Status.Instruction
@@ -209,15 +189,14 @@ steps f s image n at p v i =
     ⁏ not (placeFits f i at p) ⇒ Order.Refuse Status.Place
     ⁏ not (valueFits f i v) ⇒ Order.Refuse Status.Value
     ⁏ needsOpen i and f .coded and not (s .«open») ⇒ Order.Refuse Status.Denied
-    ⁏ hitsProtected f i image at p ⇒ Order.Refuse Status.Denied
     ⁏ ordered i at p v
 
--- all ten: "n below 5: 67 00", "first byte not FFh: 6E 00", and the rest
-unfoldable pub order : Facts → Slot → List ℕ → List ℕ → Order
-order f s image d =
+-- all nine: "n below 5: 67 00", "first byte not FFh: 6E 00", and the rest
+unfoldable pub order : Facts → Slot → List ℕ → Order
+order f s d =
     ltb (length d) 5 ⇒ Order.Refuse Status.Length
     ⁏ byte d 0 isnt 0xFF ⇒ Order.Refuse Status.Class
-    ⁏ steps f s image (length d) (place d) (p3 d) (byte d 5) (insOf (byte d 1))
+    ⁏ steps f s (length d) (place d) (p3 d) (byte d 5) (insOf (byte d 1))
 
 -- "steps 1 to 10 let its command 20 through"
 abbrev pub presents : Order → Bool

@@ -1,10 +1,9 @@
-// The ten steps: what they end in, and the steps of the commands that only look: A4, 01, B0, B1, B2. Inner functions: they ask that P1P2
+// The nine steps: what they end in, and the steps of the commands that only look: A4, 01, B0, B1, B2. Inner functions: they ask that P1P2
 // and P3 come from bytes. The rules are written in specs/Steps.antt, one table for each step, and its chain `steps` in the paper's order.
 
 use chips::Chip;
 use slot::Slot;
 ghost use mathlib.Core.Path.{_≡_};
-ghost use mathlib.Core.List.{List};
 ghost use Prim.Native.Nat.{ℕ, _<_};
 ghost use Rattle.words.specs.Bounds.{addresses};
 ghost use Rattle.chips.specs.Kinds.{facts};
@@ -21,7 +20,7 @@ pub enum Status {
     Denied,
 }
 
-// What the ten steps end in.
+// What the nine steps end in.
 pub enum Order {
     Refuse(Status),
     Select,
@@ -41,7 +40,7 @@ pub enum Order {
 // A4.
 pub fn select_order(chip: Chip, slot: Slot, n: usize, at: usize, p: usize, v: u8) -> Order
     requires { ⌜ p < 256 ⌝ }
-    ensures { λ r. ⌜ ((image : List ℕ) → r ≡ steps (facts chip) slot image n at p v Select) ⌝ }
+    ensures { λ r. ⌜ r ≡ steps (facts chip) slot n at p v Select ⌝ }
 {
     if n != 5 + p {
         return Order::Refuse(Status::Length);
@@ -61,7 +60,7 @@ pub fn select_order(chip: Chip, slot: Slot, n: usize, at: usize, p: usize, v: u8
 // 01.
 pub fn page_order(chip: Chip, slot: Slot, n: usize, at: usize, p: usize, v: u8) -> Order
     requires { ⌜ p < 256 ⌝ }
-    ensures { λ r. ⌜ ((image : List ℕ) → r ≡ steps (facts chip) slot image n at p v Page) ⌝ }
+    ensures { λ r. ⌜ r ≡ steps (facts chip) slot n at p v Page ⌝ }
 {
     if slot.selected == 0 {
         return Order::Refuse(Status::Unselected);
@@ -90,7 +89,7 @@ pub fn page_order(chip: Chip, slot: Slot, n: usize, at: usize, p: usize, v: u8) 
 // B0.
 pub fn read_order(chip: Chip, slot: Slot, n: usize, at: usize, p: usize) -> Order
     requires { ⌜ (at < addresses) × (p < 256) ⌝ }
-    ensures { λ r. ⌜ ((image : List ℕ) (v : ℕ) → r ≡ steps (facts chip) slot image n at p v Read) ⌝ }
+    ensures { λ r. ⌜ ((v : ℕ) → r ≡ steps (facts chip) slot n at p v Read) ⌝ }
 {
     if slot.selected == 0 {
         return Order::Refuse(Status::Unselected);
@@ -109,7 +108,7 @@ pub fn read_order(chip: Chip, slot: Slot, n: usize, at: usize, p: usize) -> Orde
 
 // B1.
 pub fn counter_order(chip: Chip, slot: Slot, n: usize, at: usize, p: usize) -> Order
-    ensures { λ r. ⌜ ((image : List ℕ) (v : ℕ) → r ≡ steps (facts chip) slot image n at p v Counter) ⌝ }
+    ensures { λ r. ⌜ ((v : ℕ) → r ≡ steps (facts chip) slot n at p v Counter) ⌝ }
 {
     if slot.selected == 0 {
         return Order::Refuse(Status::Unselected);
@@ -145,7 +144,7 @@ fn bits_length(chip: Chip, p: usize) -> bool
 // B2.
 pub fn bits_order(chip: Chip, slot: Slot, n: usize, at: usize, p: usize) -> Order
     requires { ⌜ (at < addresses) × (p < 256) ⌝ }
-    ensures { λ r. ⌜ ((image : List ℕ) (v : ℕ) → r ≡ steps (facts chip) slot image n at p v Bits) ⌝ }
+    ensures { λ r. ⌜ ((v : ℕ) → r ≡ steps (facts chip) slot n at p v Bits) ⌝ }
 {
     if slot.selected == 0 {
         return Order::Refuse(Status::Unselected);

@@ -1,3 +1,4 @@
 pub mod Starred
 pub mod Parameters
 pub mod Plain
+pub mod Stored

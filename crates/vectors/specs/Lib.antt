@@ -1,3 +1,4 @@
 pub mod Sessions
 pub mod Parameters
 pub mod Plain
+pub mod Stored

@@ -54,7 +54,7 @@ plainSessions =
       bytes = 0x01 ∷ 0x02 ∷ 0x03 ∷ [];
       opened = false;
     }
-    -- 2. D1 over 3FDh to 3FFh protects the two that it carries the value of; B2 tells it, D0 over them is 69 82, and over 3FEh done
+    -- 2. D1 over 3FDh to 3FFh protects the two that it carries the value of; B2 tells it, D0 over them is 65 81, and over 3FEh done
     ∷ on4418 image4418
     (command 0xD1 0x03 0xFD 0x03 (0x05 ∷ 0x00 ∷ 0x07 ∷ [])
     ∷ command 0xB2 0x03 0xF8 0x01 []
@@ -65,8 +65,8 @@ plainSessions =
     ∷ [])
     (statusWord 0x90 0x00
     ∷ success (0x5F ∷ 0x90 ∷ 0x00 ∷ [])
-    ∷ statusWord 0x69 0x82
-    ∷ statusWord 0x69 0x82
+    ∷ statusWord 0x65 0x81
+    ∷ statusWord 0x65 0x81
     ∷ statusWord 0x90 0x00
     ∷ success (0x05 ∷ 0x09 ∷ 0x07 ∷ 0x90 ∷ 0x00 ∷ [])
     ∷ [])
@@ -74,7 +74,7 @@ plainSessions =
     -- 3. an SLE4418 whose bit for 3FDh is 0 is a card: 3FDh is protected
     ∷ on4418 (set image4418 1151 0xDF)
     (command 0xD0 0x03 0xFD 0x01 (0x09 ∷ []) ∷ command 0xD0 0x03 0xFE 0x02 (0x01 ∷ 0x02 ∷ []) ∷ [])
-    (statusWord 0x69 0x82 ∷ statusWord 0x90 0x00 ∷ [])
+    (statusWord 0x65 0x81 ∷ statusWord 0x90 0x00 ∷ [])
     0x3FD (0x05 ∷ 0x01 ∷ 0x02 ∷ [])
     -- 4. past 3FFh: 6B 00; B1, 20, D2 and 01: 6D 00, the right length or a wrong one
     ∷ on4418 image4418
@@ -121,7 +121,7 @@ plainSessions =
           ∷ statusWord 0x90 0x00
           ∷ statusWord 0x6B 0x00
           ∷ success (0xFF ∷ 0xFF ∷ 0xFF ∷ 0x7F ∷ 0x90 ∷ 0x00 ∷ [])
-          ∷ statusWord 0x69 0x82
+          ∷ statusWord 0x65 0x81
           ∷ [];
       address = 255;
       bytes = 0x05 ∷ 0xFF ∷ 0xFF ∷ 0xFF ∷ 0x7F ∷ 0x00 ∷ 0x00 ∷ 0x00 ∷ 0x00 ∷ [];

@@ -92,6 +92,6 @@ all-caught = refl
 pub all-refuted : EachRefuted wrongReaders
 all-refuted = each-refuted 0 wrongReaders all-caught
 
-pub row-count : length wrongReaders ≡ 1567
+pub row-count : length wrongReaders ≡ 1629
 unfolding rules wrongReaders
 row-count = refl

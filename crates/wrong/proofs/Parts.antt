@@ -7,7 +7,8 @@ use mathlib.Core.List.{List, [], _∷_}
 use lib.ListN.{length}
 use borrow.Author.Tests.{eqb-true, not-true, not-false}
 use Rattle.words.specs.Choice.{_⇒_⁏_, _and_, _or_, _is_, _isnt_}
-use Rattle.words.proofs.Choices.{either, past, first, rest, and-true, same-choice, never}
+use Rattle.words.specs.Bytes.{byte, same}
+use Rattle.words.proofs.Choices.{either, past, first, rest, and-true, same-choice, never, no-test}
 use Rattle.chips.specs.declared.Chip.{Chip}
 use Rattle.chips.specs.declared.Known.{Known}
 use Rattle.chips.specs.declared.Known.the-variants.{Is, Unknown}
@@ -21,18 +22,21 @@ use Rattle.slot.specs.Slots.{inserted}
 use Rattle.card.specs.Images.{isCard}
 use Rattle.steps.specs.declared.Status.{Status}
 use Rattle.steps.specs.declared.Order.{Order}
-use Rattle.steps.specs.Steps.{body, order}
+use Rattle.steps.specs.Steps.{Ins, insOf, place, p3, body, ordered, order}
+use Rattle.steps.proofs.Decisions.{Decided, refused, through, decided}
+use Rattle.stores.specs.Stores.{storing}
 use Rattle.sound.specs.Sound.{imageIsCard, sound}
 use Rattle.faults.specs.declared.Fault.{Fault}
 use Rattle.faults.specs.Faults.{Request, SetParameters, Transfer, typeByte, dwLength, bSlot, apdu, requestOf, dataFits, badField, ready, faultOf}
-use Rattle.orders.specs.Orders.{Deed, performed, commanded}
+use Rattle.orders.specs.Orders.{Deed, done, unequal, reported, written, writtenWord, saidBy, imageBy, slotBy, performed, commanded}
 use Rattle.frame.specs.declared.Refusal.{Refusal}
 use Rattle.frame.specs.Exchange.{served, Outcome, turnedDown, answered, replied, reply, exchange, insertedAs, insertion}
 use Rattle.reader.specs.Runs.{Sent, sending, run}
 use Rattle.promise.specs.Sequences.{sentWith}
 use Rattle.promise.proofs.Reached.{transfers-is, transfer-does}
 use Rattle.wrong.specs.Wrong.{Reader, rowed, oneByOne, cardIn, taking, vetting, faulting, early, fielding, upon, commandingOn, commanding, ordering, sooner, letting, barring}
-use Rattle.wrong.specs.Wrong.{doing, atWrong, atRight, insertsAs, insertsBy, uponInsert}
+use Rattle.wrong.specs.Wrong.{tells, leaves, lets, doing, atWrong, atRight, insertsAs, insertsBy, uponInsert}
+use Rattle.wrong.specs.WrongStores.{storingBy, reportingBy, atUnequal}
 
 -- a reader gives what ours gives, at every input
 abbrev pub Ours : Reader → Type 0
@@ -154,7 +158,7 @@ pub rowed-ours : Ours (rowed (λ f. f))
 rowed-ours = commanding-ours _ (λ f s i d. refl)
 
 pub ordering-ours : (orders : Facts → Slot → List ℕ → List ℕ → Order)
-    → ((f : Facts) (s : Slot) (i d : List ℕ) → orders f s i d ≡ order f s i d) → Ours (ordering orders)
+    → ((f : Facts) (s : Slot) (i d : List ℕ) → orders f s i d ≡ order f s d) → Ours (ordering orders)
 unfolding commanded
 ordering-ours orders e = commanding-ours _ (λ f s i d. ap (performed f s i (body d)) (e f s i d))
 
@@ -170,6 +174,56 @@ pub at-right-ours : Ours (atRight (λ f s i d e. e))
 unfolding atRight doing
 at-right-ours = commanding-ours _ (λ f s i d. same-choice _ (same-choice _ refl))
 
+-- ---- D0
+-- a refusal is not let through
+refusal-kept : {A : Type 0} (status : Status) → lets (Order.Refuse status) ≡ true → A
+unfolding same
+refusal-kept Status.Length e = no-test e refl
+refusal-kept Status.Class e = no-test e refl
+refusal-kept Status.Instruction e = no-test e refl
+refusal-kept Status.Unselected e = no-test e refl
+refusal-kept Status.Place e = no-test e refl
+refusal-kept Status.Value e = no-test e refl
+refusal-kept Status.Denied e = no-test e refl
+
+-- a D0 that is let through is a write from its address on
+let-writes : (f : Facts) (s : Slot) (d : List ℕ) → byte d 1 is 0xD0 and lets (order f s d) ≡ true → order f s d ≡ Order.Write (place d)
+unfolding insOf _⇒_⁏_
+let-writes f s d h = go (decided f s d) (and-true _ _ h .1)
+  where
+    go : {o : Order} → Decided f s d o → lets o ≡ true → o ≡ Order.Write (place d)
+    go (refused status) e = refusal-kept status e
+    go (through i p) e = ap (λ (x : Ins). ordered x (place d) (p3 d) (byte d 5)) (sym (p .ins) ∙ ap insOf (eqb-true (byte d 1) 0xD0 (and-true _ _ h .0)))
+
+-- so it does what the rules say of one
+let-does : (f : Facts) (s : Slot) (i d : List ℕ) → byte d 1 is 0xD0 and lets (order f s d) ≡ true
+    → commanded f s i d ≡ performed f s i (body d) (Order.Write (place d))
+unfolding commanded
+let-does f s i d h = ap (performed f s i (body d)) (let-writes f s d h)
+
+pub storing-ours : Ours (storingBy (λ f i at b. storing (f .bits) (f .covered) i at b))
+unfolding storingBy doing performed saidBy imageBy slotBy written
+storing-ours = commanding-ours _ (λ f s i d.
+    let stored : List ℕ = storing (f .bits) (f .covered) i (place d) (body d) in
+    either (λ (x : Deed). x ≡ commanded f s i d) _
+    (λ h. subst⁻¹ (λ (e : Deed). (f .page isnt 0 ⇒ e ⁏ tells (writtenWord f stored (place d) (body d)) (leaves stored e)) ≡ e) (let-does f s i d h)
+    (either (λ (x : Deed). x ≡ performed f s i (body d) (Order.Write (place d))) _
+    (λ _. refl)
+    (λ z. ap (λ (l : List ℕ). record { said = writtenWord f l (place d) (body d); slot = s; image = l }) (sym (rest _ _ z)))))
+    (λ _. refl))
+
+pub reporting-ours : Ours (reportingBy (λ f i after at b. reported f after at b))
+unfolding reportingBy doing performed saidBy imageBy slotBy writtenWord
+reporting-ours = commanding-ours _ (λ f s i d.
+    either (λ (x : Deed). x ≡ commanded f s i d) _
+    (λ h. subst⁻¹ (λ (e : Deed). tells (reported f (e .image) (place d) (body d) ⇒ done ⁏ unequal) e ≡ e) (let-does f s i d h) refl)
+    (λ _. refl))
+
+pub at-unequal-ours : Ours (atUnequal (λ f s i d e. e))
+unfolding atUnequal doing
+at-unequal-ours = commanding-ours _ (λ f s i d. same-choice _ (same-choice _ refl))
+
+-- ---- steps
 -- where its test holds nowhere, nothing comes sooner, nothing more is let through and nothing more is barred
 pub sooner-ours : (earlier later : Status) → Ours (sooner earlier (λ f s i d. false) later)
 unfolding sooner

@@ -1,4 +1,4 @@
--- The table of wrong readers, second part: steps 1 to 10, what the commands do, and the table of cards.
+-- The table of wrong readers, second part: steps 1 to 9, what the commands do, and the table of cards.
 use mathlib.Core.List.{List, [], _∷_, _++_}
 use lib.ListN.{replicate, set}
 use Rattle.chips.specs.declared.Chip.the-variants.{I2c1, I2c2, I2c4, I2c8, I2c16, I2c32, I2c64, I2c128, I2c256, Sle4428, Sle4418, Sle4442, Sle4432}
@@ -13,7 +13,7 @@ use Rattle.wrong.specs.WrongDowns as downs
 use Rattle.wrong.specs.WrongSteps as steps
 use Rattle.wrong.specs.WrongCommands as commands
 
--- ---- steps 1 to 10 in another order
+-- ---- steps 1 to 9 in another order
 abbrev pub stepOrderRows : List Witness
 stepOrderRows =
     at4442 steps.classFirst 0x07 (transfer (0x00 ∷ 0xB0 ∷ 0x00 ∷ 0x00 ∷ []))
@@ -89,9 +89,9 @@ stepRows7 =
     ∷ on steps.bitsAsBytes (shut Sle4428) mem4428 (ask 0xB2 0x03 0xFC 0x01 [])
     ∷ []
 
--- ---- steps 8 to 10: values, open, protected
-abbrev pub stepRows8to10 : List Witness
-stepRows8to10 =
+-- ---- steps 8 and 9: values, open
+abbrev pub stepRows8to9 : List Witness
+stepRows8to9 =
     on steps.selectsOwn (bare Sle4442) mem4442 (ask 0xA4 0x00 0x00 0x01 (0x05 ∷ []))
     ∷ on steps.selectsNamed (bare Sle4442) mem4442 (ask 0xA4 0x00 0x00 0x01 (0x05 ∷ []))
     ∷ on steps.takesPage2 (shut I2c1) memI2c (ask 0x01 0x00 0x00 0x01 (0x02 ∷ []))
@@ -103,13 +103,6 @@ stepRows8to10 =
     ∷ at4442 steps.writesClosed 0x07 (ask 0xD2 0x00 0x01 0x03 (0x01 ∷ 0x02 ∷ 0x03 ∷ []))
     ∷ at4442 steps.readsNeedOpen 0x07 (ask 0xB0 0x00 0x00 0x01 [])
     ∷ on steps.i2cNeedsOpen (shut I2c1) memI2c (ask 0xD0 0x00 0x00 0x01 (0x05 ∷ []))
-    ∷ on steps.overProtected (wide Sle4442) kept4442 (ask 0xD0 0x00 0x01 0x01 (0x05 ∷ []))
-    ∷ on steps.looksAtFirst (wide Sle4442) kept4442 (ask 0xD0 0x00 0x00 0x02 (0x05 ∷ 0x06 ∷ []))
-    ∷ on steps.missesLast (wide Sle4442) kept4442 (ask 0xD0 0x00 0x00 0x02 (0x05 ∷ 0x06 ∷ []))
-    ∷ on steps.onesProtect (wide Sle4442) mem4442 (ask 0xD0 0x00 0x00 0x01 (0x05 ∷ []))
-    ∷ on steps.storesPartly (wide Sle4442) kept4442 (ask 0xD0 0x00 0x00 0x02 (0x05 ∷ 0x06 ∷ []))
-    ∷ on steps.storesAround (wide Sle4442) kept4442 (ask 0xD0 0x00 0x00 0x03 (0x05 ∷ 0x06 ∷ 0x07 ∷ []))
-    ∷ on steps.protectsOnce (wide Sle4442) kept4442 (ask 0xD1 0x00 0x01 0x01 (0x13 ∷ []))
     ∷ []
 
 -- ---- status words, and what a refused command leaves

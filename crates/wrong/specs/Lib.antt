@@ -8,11 +8,13 @@ pub mod WrongParams
 pub mod WrongSteps
 pub mod WrongCommands
 pub mod WrongPlain
+pub mod WrongStores
 pub mod Inputs
 pub mod MessageRows
 pub mod CommandRows
 pub mod ParamRows
 pub mod PlainRows
+pub mod StoreRows
 pub mod Witnesses
 pub mod WrongRecords
 pub mod WrongPrinters

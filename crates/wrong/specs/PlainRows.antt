@@ -75,11 +75,7 @@ plainRows =
 -- ---- protected bytes, on all four kinds
 abbrev pub protectedRows : List Witness
 protectedRows =
-    on steps.overProtected (wide Sle4428) kept4428 (ask 0xD0 0x00 0x01 0x01 (0x09 ∷ []))
-    ∷ on plains.overPlain (shut Sle4418) kept4418 (ask 0xD0 0x00 0x01 0x01 (0x09 ∷ []))
-    ∷ on plains.overPlain (shut Sle4432) kept4432 (ask 0xD0 0x00 0x01 0x01 (0x09 ∷ []))
-    ∷ on plains.over3FD (shut Sle4418) (set image4418 1151 0xDF) (ask 0xD0 0x03 0xFD 0x01 (0x09 ∷ []))
-    ∷ on plains.writeProtects (wide Sle4428) mem4428 (ask 0xD0 0x00 0x00 0x01 (0x09 ∷ []))
+    on plains.writeProtects (wide Sle4428) mem4428 (ask 0xD0 0x00 0x00 0x01 (0x09 ∷ []))
     ∷ on plains.writeProtects (shut Sle4418) image4418 (ask 0xD0 0x00 0x00 0x01 (0x09 ∷ []))
     ∷ on plains.writeProtects (wide Sle4442) mem4442 (ask 0xD0 0x00 0x00 0x01 (0x09 ∷ []))
     ∷ on plains.writeProtects (shut Sle4432) image4432 (ask 0xD0 0x00 0x00 0x01 (0x09 ∷ []))

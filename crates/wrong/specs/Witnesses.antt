@@ -5,6 +5,7 @@ use lib.ListN.{set}
 use lib.Count.{ones}
 use Rattle.words.specs.Bytes.{series}
 use Rattle.chips.specs.declared.Chip.the-variants.{I2c1}
+use Rattle.bits.specs.Bits.{firstProtected}
 use Rattle.slot.specs.Slots.{removed}
 use Rattle.reader.specs.Heard.{heard}
 use Rattle.vectors.specs.Parameters.{setting}
@@ -12,13 +13,14 @@ use Rattle.vectors.specs.Sessions.{lent, selectedSlot, image4442, image4428, tr
 use Rattle.vectors.specs.Plain.{image4418, image4432}
 use Rattle.wrong.specs.Caught.{Witness}
 use Rattle.wrong.specs.WrongReaders.{remembering, answersAgain, equalFree}
-use Rattle.wrong.specs.WrongSteps.{storeAround}
+use Rattle.wrong.specs.WrongStores.{storeParts}
 use Rattle.wrong.specs.WrongCommands.{upToUnequal, cutFrom, backwards}
 use Rattle.wrong.specs.Inputs.{shut, memI2c, plain, ask, on}
 use Rattle.wrong.specs.MessageRows.{uselessRows, trapRows, buildRows, downRows, insertionRows, removalRows, answerRows, faultRows, powerRows}
-use Rattle.wrong.specs.CommandRows.{stepOrderRows, stepRows1to5, stepRows6, stepRows7, stepRows8to10, wordRows, commandRows, pageRows, codeRows, numberRows, kindRows}
+use Rattle.wrong.specs.CommandRows.{stepOrderRows, stepRows1to5, stepRows6, stepRows7, stepRows8to9, wordRows, commandRows, pageRows, codeRows, numberRows, kindRows}
 use Rattle.wrong.specs.ParamRows.{paramRows, fiRows, diRows, goodFiRows, goodDiRows}
 use Rattle.wrong.specs.PlainRows.{plainRows, protectedRows}
+use Rattle.wrong.specs.StoreRows.{storeRows}
 use Rattle.wrong.specs.WrongFaults as faults
 use Rattle.wrong.specs.WrongSteps as steps
 
@@ -62,7 +64,7 @@ wrongReaders =
     ++ stepRows1to5
     ++ stepRows6
     ++ stepRows7
-    ++ stepRows8to10
+    ++ stepRows8to9
     ++ wordRows
     ++ commandRows
     ++ pageRows
@@ -71,6 +73,7 @@ wrongReaders =
     ++ kindRows
     ++ plainRows
     ++ protectedRows
+    ++ storeRows
     ++ slotRows
     ++ typeRows
     ++ selectRows
@@ -83,5 +86,5 @@ wrongReaders =
 -- the table and its words at once, for what is proved by computing them
 unfoldable pub witnesses : ℕ
 unfolding ones lent selectedSlot image4442 image4428 image4418 image4432 transfer setting heard
-    remembering answersAgain equalFree storeAround upToUnequal cutFrom backwards wrongReaders
+    remembering answersAgain equalFree storeParts firstProtected upToUnequal cutFrom backwards wrongReaders
 witnesses = 0

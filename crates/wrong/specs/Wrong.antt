@@ -164,7 +164,7 @@ placed counter code bits covered f = record {
   zeros = f .zeros;
 }
 
--- the order that steps 1 to 10 end in is found by `orders`
+-- the order that steps 1 to 9 end in is found by `orders`
 abbrev pub ordering : (Facts → Slot → List ℕ → List ℕ → Order) → Reader
 ordering orders = commanding λ f s image d. performed f s image (body d) (orders f s image d)
 
@@ -195,32 +195,32 @@ Test = Facts → Slot → List ℕ → List ℕ → Bool
 -- a later step comes sooner: where the rules refuse with one word and the later test holds too, the later word is said
 unfoldable pub sooner : Status → Test → Status → Reader
 sooner earlier test later = ordering λ f s image d.
-    let o = order f s image d in
+    let o = order f s d in
     refuses earlier o and test f s image d ⇒ Order.Refuse later
     ⁏ o
 
 -- what the rules refuse with a word is done where the test holds
 unfoldable pub letting : Status → Test → Reader
 letting status test = ordering λ f s image d.
-    let o = order f s image d in
+    let o = order f s d in
     refuses status o and test f s image d ⇒ ordered (insOf (byte d 1)) (place d) (p3 d) (byte d 5)
     ⁏ o
 
 -- what the rules let through is refused where the test holds
 unfoldable pub barring : Status → Test → Reader
 barring status test = ordering λ f s image d.
-    let o = order f s image d in
+    let o = order f s d in
     lets o and test f s image d ⇒ Order.Refuse status
     ⁏ o
 
--- a command with this INS that steps 1 to 10 let through does something else: what the twist makes of its deed
+-- a command with this INS that steps 1 to 9 let through does something else: what the twist makes of its deed
 abbrev pub Twist : Type 0
 Twist = Facts → Slot → List ℕ → List ℕ → Deed → Deed
 
 unfoldable pub doing : ℕ → Twist → Reader
 doing ins twist = commanding λ f s image d.
     let e = commanded f s image d in
-    byte d 1 is ins and lets (order f s image d) ⇒ twist f s image d e
+    byte d 1 is ins and lets (order f s d) ⇒ twist f s image d e
     ⁏ e
 
 -- and command 20 alone, where the code that reached the card is wrong, or right

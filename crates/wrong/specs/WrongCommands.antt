@@ -1,5 +1,5 @@
--- Wrong readers of what a command does once steps 1 to 10 have let it through: types and pages, reads, protection bits, writes, codes and tries.
-use Prim.Native.Nat.{ℕ, _+_, _-_, _*_, _%_, _^_}
+-- Wrong readers of what a command does once steps 1 to 9 have let it through: types and pages, reads, protection bits, writes, codes and tries.
+use Prim.Native.Nat.{ℕ, _+_, _-_, _*_, _/_, _%_, _^_}
 use mathlib.Core.Bool.{false}
 use mathlib.Core.List.{List, [], _∷_, _++_, map}
 use lib.ListN.{take, drop, set, replicate}
@@ -18,7 +18,6 @@ use Rattle.orders.specs.Orders.{Deed, done}
 use Rattle.wrong.specs.Wrong.{Reader, rowed, placed, tells, stands, leaves, doing, atWrong, atRight, counterOf, counting}
 use Rattle.wrong.specs.WrongReaders.{mirrored}
 use Rattle.wrong.specs.WrongFaults.{oneMore}
-use Rattle.wrong.specs.WrongSteps.{protectionBytes}
 
 -- ---- A4 and 01
 -- keeps the card open at A4
@@ -120,8 +119,9 @@ protectsAll = doing 0xD1 λ f s image d e. leaves (protectEqual (f .bits) (f .co
 abbrev pub protectsNothing : Reader
 protectsNothing = doing 0xD1 λ f s image d e. leaves image e
 
+-- the protection bytes of an image, each mirrored
 abbrev pub mirroring : Facts → List ℕ → List ℕ
-mirroring f image = sets image (f .bits) (map mirrored (protectionBytes f image))
+mirroring f image = sets image (f .bits) (map mirrored (take (f .covered / 8) (drop (f .bits) image)))
 
 -- clears bit 7 - k mod 8 for byte k at D1
 abbrev pub protectsMirrored : Reader

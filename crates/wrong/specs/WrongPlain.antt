@@ -1,4 +1,4 @@
--- Wrong readers of cards without a code, and of protected bytes on the four kinds that have protection bits.
+-- Wrong readers of cards without a code, and of what protects and frees a byte on the four kinds that have protection bits.
 use Prim.Native.Nat.{ℕ, _+_, _-_, _/_}
 use mathlib.Core.Bool.{Bool, not}
 use mathlib.Core.List.{List, [], _∷_, _++_}
@@ -118,18 +118,10 @@ writesZeros = letting Status.Place λ f s image d. byte d 1 is 0xD0 and leb (f .
 abbrev pub protectsPlainPast : Reader
 protectsPlainPast = letting Status.Place λ f s image d. uncoded f and byte d 1 is 0xD1 and upTo d is (f .reach + 1)
 
--- ---- steps 9 and 10
+-- ---- step 9
 -- asks step 9 of a card without a code
 abbrev pub plainNeedsOpen : Reader
 plainNeedsOpen = barring Status.Denied λ f s image d. uncoded f and needsOpen (ins d)
-
--- does not ask step 10 of a card without a code
-abbrev pub overPlain : Reader
-overPlain = letting Status.Denied λ f s image d. uncoded f and byte d 1 is 0xD0
-
--- does not honour the protection of 3FDh to 3FFh on kind 21
-abbrev pub over3FD : Reader
-over3FD = letting Status.Denied λ f s image d. f .kind is 21 and byte d 1 is 0xD0 and leb 0x3FD (place d)
 
 -- ---- B0
 -- blanks 3FEh and 3FFh on kind 21

@@ -7,11 +7,11 @@ use lib.Dec.{ltb}
 use Rattle.words.specs.Choice.{_⇒_⁏_, _is_}
 use Rattle.words.specs.Bytes.{same}
 use Rattle.bits.specs.Bits.{bitOf}
-use Rattle.pages.specs.Pages.{pageWrite, written}
+use Rattle.pages.specs.Pages.{pageWrite}
 use Rattle.slot.specs.Slots.{opened}
 use Rattle.steps.specs.Steps.{place, p3, body}
 use Rattle.faults.specs.Faults.{dwLength, apdu}
-use Rattle.orders.specs.Orders.{done}
+use Rattle.orders.specs.Orders.{done, written}
 use Rattle.frame.specs.declared.Refusal.{Refusal}
 use Rattle.frame.specs.Exchange.{Outcome, turnedDown, exchange}
 use Rattle.reader.specs.Runs.{Sent, sending}
@@ -36,7 +36,7 @@ chargesFirst = atWrong λ f s image d e. counterOf f image is f .full ⇒ e ⁏ 
 
 -- stores only a write's first byte
 abbrev pub storesFirst : Reader
-storesFirst = doing 0xD0 λ f s image d e. leaves (written (s .page) (f .page) image (place d) (take 1 (body d))) e
+storesFirst = doing 0xD0 λ f s image d e. leaves (written f (s .page) image (place d) (take 1 (body d))) e
 
 -- reports an invented counter in the answer to 20: a full one
 abbrev pub inventsAnswer : Reader

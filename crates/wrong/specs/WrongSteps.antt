@@ -1,21 +1,17 @@
--- Wrong readers of steps 1 to 10: a step in another place, a step left out or off by one, another status word.
-use Prim.Native.Nat.{ℕ, _+_, _-_, _*_, _/_}
+-- Wrong readers of steps 1 to 9: a step in another place, a step left out or off by one, another status word.
+use Prim.Native.Nat.{ℕ, _+_, _-_, _*_}
 use mathlib.Core.Bool.{Bool, not}
-use mathlib.Core.List.{List, [], _∷_, _++_, map}
-use lib.ListN.{length, take, drop, set, replicate}
-use lib.Seq.{sets}
+use mathlib.Core.List.{List, [], _∷_, _++_}
+use lib.ListN.{length, take, set}
 use lib.Dec.{leb, ltb}
 use Rattle.words.specs.Choice.{_⇒_⁏_, _and_, _or_, _is_, _isnt_}
 use Rattle.words.specs.Bytes.{byte, same}
-use Rattle.bits.specs.declared.Place.{Place}
-use Rattle.bits.specs.declared.Place.the-variants.{At, Nowhere}
-use Rattle.bits.specs.Bits.{isProtected, firstProtected}
 use Rattle.codes.specs.Codes.{codeIn, spending}
 use Rattle.chips.specs.declared.Facts.{Facts}
 use Rattle.slot.specs.Slots.{selecting, opened, closed}
 use Rattle.steps.specs.declared.Status.{Status}
 use Rattle.steps.specs.declared.Order.{Order}
-use Rattle.steps.specs.Steps.{Ins, Write, insOf, place, p3, body, known, has, following, lengthFits, placeFits, valueFits, needsOpen, hitsProtected, order}
+use Rattle.steps.specs.Steps.{Ins, Write, insOf, place, p3, body, known, has, following, lengthFits, placeFits, valueFits, needsOpen, order}
 use Rattle.orders.specs.Orders.{done, commanded}
 use Rattle.wrong.specs.Wrong.{Reader, Test, tells, stands, leaves, commanding, ordering, refuses, lets, sooner, letting, barring, counterOf, counting}
 
@@ -26,7 +22,7 @@ ins d = insOf (byte d 1)
 abbrev pub upTo : List ℕ → ℕ
 upTo d = place d + p3 d
 
--- ---- a step in another place. No command is under 8 and 9 both, and 9 and 10 say one word: their order cannot be seen.
+-- ---- a step in another place. No command is under 8 and 9 both: their order cannot be seen.
 -- takes step 2 before 1
 abbrev pub classFirst : Reader
 classFirst = sooner Status.Length (λ f s image d. byte d 0 isnt 0xFF) Status.Class
@@ -65,27 +61,27 @@ openFirst = sooner Status.Place (λ f s image d. needsOpen (ins d) and f .coded 
 -- ---- steps 1 to 5
 -- takes a command of four bytes, P3 being 0
 abbrev pub takesFour : Reader
-takesFour = ordering λ f s image d. order f s image (length d is 4 ⇒ d ++ (0x00 ∷ []) ⁏ d)
+takesFour = ordering λ f s image d. order f s (length d is 4 ⇒ d ++ (0x00 ∷ []) ⁏ d)
 
 -- takes no command of five bytes
 abbrev pub refusesFive : Reader
-refusesFive = ordering λ f s image d. length d is 5 ⇒ Order.Refuse Status.Length ⁏ order f s image d
+refusesFive = ordering λ f s image d. length d is 5 ⇒ Order.Refuse Status.Length ⁏ order f s d
 
 -- takes any first byte
 abbrev pub anyClass : Reader
-anyClass = ordering λ f s image d. order f s image (set d 0 0xFF)
+anyClass = ordering λ f s image d. order f s (set d 0 0xFF)
 
 -- takes one more INS for another
 abbrev pub takesIns : ℕ → ℕ → Reader
-takesIns more i = ordering λ f s image d. order f s image (byte d 1 is more ⇒ set d 1 i ⁏ d)
+takesIns more i = ordering λ f s image d. order f s (byte d 1 is more ⇒ set d 1 i ⁏ d)
 
 -- does not know this INS
 abbrev pub dropsIns : ℕ → Reader
-dropsIns i = ordering λ f s image d. order f s image (byte d 1 is i ⇒ set d 1 0x00 ⁏ d)
+dropsIns i = ordering λ f s image d. order f s (byte d 1 is i ⇒ set d 1 0x00 ⁏ d)
 
 -- takes commands with no type selected
 abbrev pub anySelection : Reader
-anySelection = ordering λ f s image d. order f (s .selected is 0 ⇒ selecting (f .selects) s ⁏ s) image d
+anySelection = ordering λ f s image d. order f (s .selected is 0 ⇒ selecting (f .selects) s ⁏ s) d
 
 -- wants a type selected for A4 too
 abbrev pub selectNeedsType : Reader
@@ -104,7 +100,7 @@ pagesCodeCard = letting Status.Instruction λ f s image d.
 -- ---- step 6
 -- passes over bytes behind B0's P3
 abbrev pub readsWithData : Reader
-readsWithData = ordering λ f s image d. order f s image (byte d 1 is 0xB0 ⇒ take 5 d ⁏ d)
+readsWithData = ordering λ f s image d. order f s (byte d 1 is 0xB0 ⇒ take 5 d ⁏ d)
 
 -- takes a P3 smaller than D0's data, and drops the rest
 abbrev pub p3Smaller : Reader
@@ -117,7 +113,7 @@ p3Larger = commanding λ f s image d.
 
 -- reads 256 bytes where B0's P3 is 0
 abbrev pub zeroIs256 : Reader
-zeroIs256 = ordering λ f s image d. order f s image (byte d 1 is 0xB0 and p3 d is 0 ⇒ set d 4 256 ⁏ d)
+zeroIs256 = ordering λ f s image d. order f s (byte d 1 is 0xB0 and p3 d is 0 ⇒ set d 4 256 ⁏ d)
 
 -- takes no B0 with P3 255
 abbrev pub refuses255 : Reader
@@ -157,22 +153,22 @@ abbrev pub shortCode : Reader
 shortCode = commanding λ f s image d.
     let e = commanded f s image d in
     let front = codeIn (f .code) (p3 d) image in
-    refuses Status.Length (order f s image d) and byte d 1 is 0x20 and length d is (5 + p3 d) and leb 1 (p3 d) and ltb (p3 d) (f .digits)
+    refuses Status.Length (order f s d) and byte d 1 is 0x20 and length d is (5 + p3 d) and leb 1 (p3 d) and ltb (p3 d) (f .digits)
     and place d is 0x0000 and counterOf f image isnt 0 and same (body d) front ⇒ stands (opened s) (counting f (f .full) e)
     ⁏ e
 
 -- ---- step 7
 -- does not look at P1P2 of this INS (which must be 00 and this byte)
 abbrev pub anyPlace : ℕ → ℕ → Reader
-anyPlace i low = ordering λ f s image d. order f s image (byte d 1 is i ⇒ set (set d 2 0x00) 3 low ⁏ d)
+anyPlace i low = ordering λ f s image d. order f s (byte d 1 is i ⇒ set (set d 2 0x00) 3 low ⁏ d)
 
 -- does not look at P1
 abbrev pub lowAddress : Reader
-lowAddress = ordering λ f s image d. order f s image (set d 2 0x00)
+lowAddress = ordering λ f s image d. order f s (set d 2 0x00)
 
 -- reads P1P2 low byte first
 abbrev pub placeLowFirst : Reader
-placeLowFirst = ordering λ f s image d. order f s image (set (set d 2 (byte d 3)) 3 (byte d 2))
+placeLowFirst = ordering λ f s image d. order f s (set (set d 2 (byte d 3)) 3 (byte d 2))
 
 -- reads on past the memory
 abbrev pub readsPast : Reader
@@ -186,9 +182,9 @@ readsOnePast = letting Status.Place λ f s image d. byte d 1 is 0xB0 and upTo d 
 abbrev pub readsOneLess : Reader
 readsOneLess = barring Status.Place λ f s image d. byte d 1 is 0xB0 and upTo d is f .memory
 
--- steps 9 and 10 let a D0 through
+-- step 9 lets a D0 through
 abbrev pub mayWrite : Test
-mayWrite f s image d = byte d 1 is 0xD0 and (not (f .coded) or s .«open») and not (hitsProtected f Write image (place d) (p3 d))
+mayWrite f s image d = byte d 1 is 0xD0 and (not (f .coded) or s .«open»)
 
 -- writes one byte past the memory
 abbrev pub writesOnePast : Reader
@@ -222,14 +218,14 @@ selectsOwn = letting Status.Value λ f s image d. byte d 1 is 0xA4
 -- selects any type that A4 names
 abbrev pub selectsNamed : Reader
 selectsNamed = commanding λ f s image d.
-    byte d 1 is 0xA4 and refuses Status.Value (order f s image d) ⇒ record { said = done; slot = selecting (byte d 5) s; image = image }
+    byte d 1 is 0xA4 and refuses Status.Value (order f s d) ⇒ record { said = done; slot = selecting (byte d 5) s; image = image }
     ⁏ commanded f s image d
 
 -- selects this kind by another type and not by its own
 abbrev pub otherSelect : ℕ → ℕ → Reader
 otherSelect k type = ordering λ f s image d.
     let named = byte d 5 is type ⇒ f .selects ⁏ byte d 5 is f .selects ⇒ type ⁏ byte d 5 in
-    order f s image (f .kind is k and byte d 1 is 0xA4 ⇒ set d 5 named ⁏ d)
+    order f s (f .kind is k and byte d 1 is 0xA4 ⇒ set d 5 named ⁏ d)
 
 -- takes page code 02h
 abbrev pub takesPage2 : Reader
@@ -246,7 +242,7 @@ refusesPage code = barring Status.Value λ f s image d. byte d 1 is 0x01 and byt
 -- ---- step 9
 -- does D0, D1 and D2 on a closed code card
 abbrev pub writesClosed : Reader
-writesClosed = ordering λ f s image d. order f (opened s) image d
+writesClosed = ordering λ f s image d. order f (opened s) d
 
 -- reads a code card only while it is open
 abbrev pub readsNeedOpen : Reader
@@ -256,74 +252,24 @@ readsNeedOpen = barring Status.Denied λ f s image d. f .coded and byte d 1 is 0
 abbrev pub i2cNeedsOpen : Reader
 i2cNeedsOpen = barring Status.Denied λ f s image d. f .page isnt 0 and byte d 1 is 0xD0 and not (s .«open»)
 
--- ---- step 10
--- the protection bytes of an image
-abbrev pub protectionBytes : Facts → List ℕ → List ℕ
-protectionBytes f image = take (f .covered / 8) (drop (f .bits) image)
-
--- stores over protected bytes
-abbrev pub overProtected : Reader
-overProtected = ordering λ f s image d. order f s (sets image (f .bits) (replicate (f .covered / 8) 0xFF)) d
-
--- looks at the protection of the first byte alone
-abbrev pub looksAtFirst : Reader
-looksAtFirst = letting Status.Denied λ f s image d.
-    s .«open» and byte d 1 is 0xD0 and not (isProtected (f .bits) (f .covered) image (place d))
-
--- does not look at the protection of the last byte
-abbrev pub missesLast : Reader
-missesLast = letting Status.Denied λ f s image d.
-    s .«open» and byte d 1 is 0xD0 and not (hitsProtected f Write image (place d) (p3 d - 1))
-
--- takes a protection bit of 1 for protected
-abbrev pub onesProtect : Reader
-onesProtect = ordering λ f s image d. order f s (sets image (f .bits) (map (λ (b : ℕ). 0xFF - b) (protectionBytes f image))) d
-
-abbrev pub before : Place → ℕ → ℕ
-before (At k) at = k - at
-before Nowhere at = 0
-
--- stores the bytes in front of the first protected one, and says 69 82
-abbrev pub storesPartly : Reader
-storesPartly = commanding λ f s image d.
-    let e = commanded f s image d in
-    let n = before (firstProtected (f .bits) (f .covered) image (place d) (p3 d)) (place d) in
-    byte d 1 is 0xD0 and s .«open» and refuses Status.Denied (order f s image d) ⇒ leaves (sets image (place d) (take n (body d))) e
-    ⁏ e
-
-unfoldable pub storeAround : Facts → List ℕ → ℕ → List ℕ → List ℕ
-storeAround f image k [] = image
-storeAround f image k (v ∷ vs) = storeAround f (isProtected (f .bits) (f .covered) image k ⇒ image ⁏ set image k v) (k + 1) vs
-
--- passes over the protected bytes, stores the others, and says 90 00
-abbrev pub storesAround : Reader
-storesAround = commanding λ f s image d.
-    byte d 1 is 0xD0 and s .«open» and refuses Status.Denied (order f s image d)
-    ⇒ record { said = done; slot = s; image = storeAround f image (place d) (body d) }
-    ⁏ commanded f s image d
-
--- refuses D1 over a protected byte
-abbrev pub protectsOnce : Reader
-protectsOnce = barring Status.Denied λ f s image d. byte d 1 is 0xD1 and hitsProtected f Write image (place d) (p3 d)
-
 -- ---- status words
 -- says another word for this refusal
 abbrev pub rewords : Status → List ℕ → Reader
 rewords status word = commanding λ f s image d.
     let e = commanded f s image d in
-    refuses status (order f s image d) ⇒ tells word e
+    refuses status (order f s d) ⇒ tells word e
     ⁏ e
 
 -- closes the card where a command is refused
 abbrev pub refusalCloses : Reader
 refusalCloses = commanding λ f s image d.
     let e = commanded f s image d in
-    lets (order f s image d) ⇒ e
+    lets (order f s d) ⇒ e
     ⁏ stands (closed s) e
 
 -- charges a code whose command is refused with this word
 abbrev pub charges : Status → Reader
 charges status = commanding λ f s image d.
     let e = commanded f s image d in
-    byte d 1 is 0x20 and refuses status (order f s image d) ⇒ leaves (spending (f .counter) image) e
+    byte d 1 is 0x20 and refuses status (order f s d) ⇒ leaves (spending (f .counter) image) e
     ⁏ e

@@ -1,37 +1,28 @@
--- `write` meets its contract: the data are written, and 90 00 is said.
+-- `write` meets its contract: the bytes are written, and the word is said that the report calls for.
 use borrow.Author.Needs.{needs}
-use mathlib.Core.Path.{_≡_, refl, ap, ap₂, _∙_}
+use mathlib.Core.Path.{_≡_, refl, sym, ap, _∙_}
+use mathlib.Core.Bool.{Bool}
+use mathlib.Core.List.{List, [], _∷_}
 use native.Mathlib.Omega.{arith}
-use Prim.Native.Nat.{ℕ, _%_}
+use Prim.Native.Nat.{ℕ}
+use lib.ListN.{length}
+use Rattle.words.specs.Bytes.{over}
+use Rattle.words.proofs.Choices.{taken, passed}
 use Rattle.words.proofs.Lists.{over-pair}
-use Rattle.chips.specs.declared.Facts.{Facts}
 use Rattle.chips.specs.Kinds.{facts}
-use Rattle.chips.proofs.KindLaws.{laid, whole-pages}
-use Rattle.pages.specs.Pages.{written}
-use Rattle.orders.specs.Orders.{saidBy, imageBy, slotBy, performed}
+use Rattle.orders.specs.Orders.{done, unequal, reported, written, writtenWord, saidBy, imageBy, slotBy, performed}
 use Rattle.changes.proofs.write.Statement.{statement}
 use Rattle.changes.proofs.write.Tie as tie
 
-wide-requires : tie.Need-wide-requires
-wide-requires c κs = search needs
+write-bytes-requires : tie.Need-write-bytes-requires
+write-bytes-requires c κs = search needs
 
-facts-requires : tie.Need-facts-requires
-facts-requires c κs = search needs
-
-write-requires : tie.Need-write-requires
-write-requires c κs =
-    let start = c .before .before .before .before .before .before in
-    let chip = start .args .chip in
-    let page : c .facts .result .page ≡ facts chip .page = ap (λ (f : Facts). f .page) (c .facts .ensures) in
-    let l = laid chip in (
-      omega (arith, l .front),
-      omega (arith, c .before .wide .ensures .0),
-      record {
-        whole = λ h. ap₂ (λ (x y : ℕ). x % y) (start .pre .1) page ∙ whole-pages chip (omega (arith, page, h));
-        page = omega (arith, page, l .paged, l .modest);
-        image = omega (arith, l .modest);
-      },
-    )
+-- the report is the rule's, of the image as the rule has it
+report : (w : tie.After-write-bytes) → let a = w .before .before .before .before .before .args in
+    reported (facts (a .chip)) (written (facts (a .chip)) (a .slot .page) (a .image .now) (a .at) (a .«data» .now)) (a .at) (a .«data» .now) ≡ w .write-bytes .result
+report w =
+    let a = w .before .before .before .before .before .args in
+    sym (w .write-bytes .ensures .1 ∙ ap (λ (l : List ℕ). reported (facts (a .chip)) l (a .at) (a .«data» .now)) (w .write-bytes .ensures .0))
 
 put-two-requires : tie.Need-put-two-requires
 put-two-requires c κs = search needs
@@ -43,24 +34,56 @@ same-length-2 : tie.Need-same-length-2
 same-length-2 c = search needs
 
 returns : tie.Need-returns
-unfolding performed saidBy imageBy slotBy
+unfolding performed saidBy imageBy slotBy writtenWord
 returns c =
-    let at-write = c .before .before .before .before .before .before in
-    let at-facts = at-write .before in
-    let at-wide = at-facts .before in
-    let start = at-wide .before .before .before .before .before in
-    let a = start .args in
+    let at-put = c .before .before in
+    let on = at-put .before .before in
+    let w = on .before .before .before in
+    let a = w .before .before .before .before .before .args in
+    let word : done ≡ writtenWord (facts (a .chip)) (written (facts (a .chip)) (a .slot .page) (a .image .now) (a .at) (a .«data» .now)) (a .at) (a .«data» .now) =
+    taken _ (report w ∙ on .if1 .taken) in
     record {
-      len = c .before .before .put-two .ensures .0;
+      len = at-put .put-two .ensures .0 ∙ ap length word;
       slot = refl;
-      image =
-          at-write .write .ensures
-          ∙ ap₂ (λ (x y : ℕ). written x y (a .image .now) (a .at) (a .«data» .now)) (at-wide .wide .ensures .0)
-          (ap (λ (f : Facts). f .page) (at-facts .facts .ensures));
-      out = c .before .before .put-two .ensures .1 ∙ over-pair (a .out .now) 0x90 0x00 (omega arith);
+      image = w .write-bytes .ensures .0;
+      out = at-put .put-two .ensures .1 ∙ over-pair (a .out .now) 0x90 0x00 (omega arith) ∙ ap (λ (l : List ℕ). over l (a .out .now)) word;
+    }
+
+put-two-requires-2 : tie.Need-put-two-requires-2
+put-two-requires-2 c κs = search needs
+
+same-length-3 : tie.Need-same-length-3
+same-length-3 c = search needs
+
+same-length-4 : tie.Need-same-length-4
+same-length-4 c = search needs
+
+returns-2 : tie.Need-returns-2
+unfolding performed saidBy imageBy slotBy writtenWord
+returns-2 c =
+    let at-put = c .before .before in
+    let on = at-put .before .before in
+    let w = on .before .before .before in
+    let a = w .before .before .before .before .before .args in
+    let word : unequal ≡ writtenWord (facts (a .chip)) (written (facts (a .chip)) (a .slot .page) (a .image .now) (a .at) (a .«data» .now)) (a .at) (a .«data» .now) =
+    passed _ (report w ∙ on .if1 .left) refl in
+    record {
+      len = at-put .put-two2 .ensures .0 ∙ ap length word;
+      slot = refl;
+      image = w .write-bytes .ensures .0;
+      out = at-put .put-two2 .ensures .1 ∙ over-pair (a .out .now) 0x65 0x81 (omega arith) ∙ ap (λ (l : List ℕ). over l (a .out .now)) word;
     }
 
 pub write-spec : {M : Type 1} → statement M
 write-spec =
     tie.close
-    (tie.spec wide-requires facts-requires write-requires put-two-requires same-length same-length-2 returns)
+    (tie.spec
+    write-bytes-requires
+    put-two-requires
+    same-length
+    same-length-2
+    returns
+    put-two-requires-2
+    same-length-3
+    same-length-4
+    returns-2)

@@ -49,16 +49,16 @@ part-perform-end c = search needs
 perform-requires : tie.Need-perform-requires
 perform-requires c κs =
     let at-decide = c .before .before .before in
-    let at-shared-slice-known = at-decide .before .before .before .before in
+    let at-shared-slice-known = at-decide .before .before .before in
     let start = at-shared-slice-known .before .before in
     let a = start .args in
     let f = facts (a .chip) in
     let d : List ℕ = a .apdu .now in
     let fits : Fit f (body d) (at-decide .decide .result) =
-    subst⁻¹ (λ (o : Order). Fit f (body d) o) (at-decide .decide .ensures) (order-fits f (a .slot) (a .image .now) d) in
+    subst⁻¹ (λ (o : Order). Fit f (body d) o) (at-decide .decide .ensures) (order-fits f (a .slot) d) in
     let short : Short (at-decide .decide .result) =
     subst⁻¹ Short (at-decide .decide .ensures)
-    (order-short f (a .slot) (a .image .now) d (omega (arith, at-shared-slice-known .shared-slice-known .given 4))) in
+    (order-short f (a .slot) d (omega (arith, at-shared-slice-known .shared-slice-known .given 4))) in
     (omega arith, start .pre .1, start .pre .2, subst⁻¹ (λ (b : List ℕ). Fit f b (at-decide .decide .result)) (tail-is 5 d) fits, short)
 
 same-length-2 : tie.Need-same-length-2
@@ -72,12 +72,12 @@ unfolding commanded performed
 returns-2 c =
     let at-perform = c .before .before .before .before in
     let at-decide = at-perform .before .before .before .before in
-    let at-shared-slice-known = at-decide .before .before .before .before in
+    let at-shared-slice-known = at-decide .before .before .before in
     let start = at-shared-slice-known .before .before in
     let a = start .args in
     let f = facts (a .chip) in
     let d : List ℕ = a .apdu .now in
-    let o : Order = order f (a .slot) (a .image .now) d in
+    let o : Order = order f (a .slot) d in
     let g : Does (performed f (a .slot) (a .image .now) (body d) o) (at-perform .perform .result) (at-perform .perform .last .1 .1 .1 .0)
     (a .out .now) (at-perform .perform .last .1 .1 .1 .1 .1 .0) =
     does-by f (a .slot) (a .image .now) (body d) (sym (at-decide .decide .ensures))
@@ -85,8 +85,8 @@ returns-2 c =
     (at-perform .perform .last .1 .1 .1 .0) (a .out .now) (at-perform .perform .last .1 .1 .1 .1 .1 .0)) (tail-is 5 d)
     (at-perform .perform .ensures)) in
     let short : length (saidBy f (a .slot) (a .image .now) (body d) o) ≤ 257 =
-    said-short (a .chip) (a .slot) (a .image .now) (body d) o (start .pre .1) (order-fits f (a .slot) (a .image .now) d)
-    (order-short f (a .slot) (a .image .now) d (omega (arith, at-shared-slice-known .shared-slice-known .given 4))) in
+    said-short (a .chip) (a .slot) (a .image .now) (body d) o (start .pre .1) (order-fits f (a .slot) d)
+    (order-short f (a .slot) d (omega (arith, at-shared-slice-known .shared-slice-known .given 4))) in
     (g, omega (arith, g .len, short))
 
 pub command-spec : {M : Type 1} → statement M

@@ -22,7 +22,7 @@ shared-slice-read-if1 c = search needs
 
 returns : tie.Need-returns
 unfolding order
-returns c = passed _ (le-ltb (length (c .before .before .before .before .args .apdu .now)) 5 (omega arith)) (taken _ (ap not (ne-eqb _ 0xFF (c .if1 .taken))))
+returns c = passed _ (le-ltb (length (c .before .before .before .args .apdu .now)) 5 (omega arith)) (taken _ (ap not (ne-eqb _ 0xFF (c .if1 .taken))))
 
 place-of-requires : tie.Need-place-of-requires
 place-of-requires c κs = search needs
@@ -67,38 +67,38 @@ change-order-requires : tie.Need-change-order-requires
 change-order-requires c κs = search needs
 
 -- an arm: its handler's steps are those of the pseudo-APDU, INS being the arm's
-arm : (d : tie.After-byte-at) (i : Ins) (v : ℕ) {r : Order} → let a = d .before .before .before .before .before .before .before .before .args in
+arm : (d : tie.After-byte-at) (i : Ins) (v : ℕ) {r : Order} → let a = d .before .before .before .before .before .before .before .args in
     v ≡ byte (a .apdu .now) 5 → insOf (byte (a .apdu .now) 1) ≡ i
-    → r ≡ steps (facts (a .chip)) (a .slot) (a .image .now) (length (a .apdu .now)) (d .before .before .before .place-of .result)
+    → r ≡ steps (facts (a .chip)) (a .slot) (length (a .apdu .now)) (d .before .before .before .place-of .result)
     (d .before .wide .result) v i
-    → r ≡ order (facts (a .chip)) (a .slot) (a .image .now) (a .apdu .now)
+    → r ≡ order (facts (a .chip)) (a .slot) (a .apdu .now)
 arm d i v e k h =
     let at-place-of = d .before .before .before in
     let at-if1 = at-place-of .before in
-    let start = at-if1 .before .before .before .before in
+    let start = at-if1 .before .before .before in
     let a = start .args in
-    order-at (facts (a .chip)) (a .slot) (a .image .now) (a .apdu .now) _ _ v i (omega arith) (at-if1 .if1 .left)
+    order-at (facts (a .chip)) (a .slot) (a .apdu .now) _ _ v i (omega arith) (at-if1 .if1 .left)
     (at-place-of .place-of .ensures .0) (d .before .wide .ensures .0) e k h
 
 returns-2 : tie.Need-returns-2
 unfolding insOf _⇒_⁏_
-returns-2 c = arm (c .before .before .before) Select _ (c .before .before .before .byte-at .ensures) (ap insOf (c .before .match .keys1)) (c .select-order .ensures _)
+returns-2 c = arm (c .before .before .before) Select _ (c .before .before .before .byte-at .ensures) (ap insOf (c .before .match .keys1)) (c .select-order .ensures)
 
 returns-3 : tie.Need-returns-3
 unfolding insOf _⇒_⁏_
-returns-3 c = arm (c .before .before .before) Page _ (c .before .before .before .byte-at .ensures) (ap insOf (c .before .match .keys2)) (c .page-order .ensures _)
+returns-3 c = arm (c .before .before .before) Page _ (c .before .before .before .byte-at .ensures) (ap insOf (c .before .match .keys2)) (c .page-order .ensures)
 
 returns-4 : tie.Need-returns-4
 unfolding insOf _⇒_⁏_
-returns-4 c = arm (c .before .before .before) Read _ refl (ap insOf (c .before .match .keys3)) (c .read-order .ensures _ _)
+returns-4 c = arm (c .before .before .before) Read _ refl (ap insOf (c .before .match .keys3)) (c .read-order .ensures _)
 
 returns-5 : tie.Need-returns-5
 unfolding insOf _⇒_⁏_
-returns-5 c = arm (c .before .before .before) Counter _ refl (ap insOf (c .before .match .keys4)) (c .counter-order .ensures _ _)
+returns-5 c = arm (c .before .before .before) Counter _ refl (ap insOf (c .before .match .keys4)) (c .counter-order .ensures _)
 
 returns-6 : tie.Need-returns-6
 unfolding insOf _⇒_⁏_
-returns-6 c = arm (c .before .before .before) Bits _ refl (ap insOf (c .before .match .keys5)) (c .bits-order .ensures _ _)
+returns-6 c = arm (c .before .before .before) Bits _ refl (ap insOf (c .before .match .keys5)) (c .bits-order .ensures _)
 
 returns-7 : tie.Need-returns-7
 unfolding insOf _⇒_⁏_
@@ -106,27 +106,27 @@ returns-7 c = arm (c .before .before .before) Write _ refl (ap insOf (c .before 
 
 returns-8 : tie.Need-returns-8
 unfolding insOf _⇒_⁏_
-returns-8 c = arm (c .before .before .before) Protect _ refl (ap insOf (c .before .match .keys7)) (c .protect-order .ensures _ _)
+returns-8 c = arm (c .before .before .before) Protect _ refl (ap insOf (c .before .match .keys7)) (c .protect-order .ensures _)
 
 returns-9 : tie.Need-returns-9
 unfolding insOf _⇒_⁏_
-returns-9 c = arm (c .before .before .before) Present _ refl (ap insOf (c .before .match .keys8)) (c .present-order .ensures _ _)
+returns-9 c = arm (c .before .before .before) Present _ refl (ap insOf (c .before .match .keys8)) (c .present-order .ensures _)
 
 returns-10 : tie.Need-returns-10
 unfolding insOf _⇒_⁏_
-returns-10 c = arm (c .before .before .before) Change _ refl (ap insOf (c .before .match .keys9)) (c .change-order .ensures _ _)
+returns-10 c = arm (c .before .before .before) Change _ refl (ap insOf (c .before .match .keys9)) (c .change-order .ensures _)
 
 -- any other INS
-none : (d : tie.After-byte-at) → let a = d .before .before .before .before .before .before .before .before .args in
+none : (d : tie.After-byte-at) → let a = d .before .before .before .before .before .before .before .args in
     insOf (byte (a .apdu .now) 1) ≡ Other
-    → Order.Refuse Status.Instruction ≡ order (facts (a .chip)) (a .slot) (a .image .now) (a .apdu .now)
+    → Order.Refuse Status.Instruction ≡ order (facts (a .chip)) (a .slot) (a .apdu .now)
 unfolding steps _⇒_⁏_
 none d o =
     let at-if1 = d .before .before .before .before in
-    let start = at-if1 .before .before .before .before in
+    let start = at-if1 .before .before .before in
     let a = start .args in
     let apdu = a .apdu .now in
-    order-at (facts (a .chip)) (a .slot) (a .image .now) apdu (place apdu) (p3 apdu) (byte apdu 5) Other (omega arith)
+    order-at (facts (a .chip)) (a .slot) apdu (place apdu) (p3 apdu) (byte apdu 5) Other (omega arith)
     (at-if1 .if1 .left) refl refl refl o refl
 
 returns-11 : tie.Need-returns-11

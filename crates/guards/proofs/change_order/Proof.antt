@@ -6,7 +6,7 @@ use borrow.Author.Tests.{eq-eqb, ne-eqb, not-true, not-false}
 use Rattle.chips.specs.declared.Facts.{Facts}
 use Rattle.chips.specs.Kinds.{facts}
 use Rattle.steps.specs.Steps.{Change}
-use Rattle.steps.proofs.StepLaws.{Past4, Past5, Past6, PastP3, Past8, past3, past4, past5, past6, pastP3, past7, past8, past9, past10, stop4, stop5, stop6, stopP3, stop7, stop9}
+use Rattle.steps.proofs.StepLaws.{Past4, Past5, Past6, PastP3, Past8, past3, past4, past5, past6, pastP3, past7, past8, past9, stop4, stop5, stop6, stopP3, stop7, stop9}
 use Rattle.guards.proofs.change_order.Statement.{statement}
 use Rattle.guards.proofs.change_order.Tie as tie
 
@@ -29,37 +29,37 @@ on8 c v =
     past8 (past7 (onP3 (c .before)) (eq-eqb _ 1 (c .if5 .left))) v refl
 
 returns : tie.Need-returns
-returns c im v = stop4 (past3 refl) refl (c .if1 .taken) im v
+returns c v = stop4 (past3 refl) refl (c .if1 .taken) v
 
 has-change-requires : tie.Need-has-change-requires
 has-change-requires c κs = search needs
 
 returns-2 : tie.Need-returns-2
-returns-2 c im v = stop5 (on4 (c .before .before)) (sym (c .before .has-change .ensures) ∙ not-true _ (c .if2 .taken)) im v
+returns-2 c v = stop5 (on4 (c .before .before)) (sym (c .before .has-change .ensures) ∙ not-true _ (c .if2 .taken)) v
 
 add-if3 : tie.Need-add-if3
 add-if3 c = search needs
 
 returns-3 : tie.Need-returns-3
-returns-3 c im v = stop6 (on5 (c .before)) (c .if3 .taken) im v
+returns-3 c v = stop6 (on5 (c .before)) (c .if3 .taken) v
 
 facts-requires : tie.Need-facts-requires
 facts-requires c κs = search needs
 
 returns-4 : tie.Need-returns-4
-returns-4 c im v = stopP3 (on6 (c .before .before .before)) (ne-eqb _ _ (λ e. c .if4 .taken (e ∙ sym (ap (λ (f : Facts). f .digits) (c .before .before .facts .ensures))))) im v
+returns-4 c v = stopP3 (on6 (c .before .before .before)) (ne-eqb _ _ (λ e. c .if4 .taken (e ∙ sym (ap (λ (f : Facts). f .digits) (c .before .before .facts .ensures))))) v
 
 returns-5 : tie.Need-returns-5
-returns-5 c im v = stop7 (onP3 (c .before)) (ne-eqb _ 1 (c .if5 .taken)) im v
+returns-5 c v = stop7 (onP3 (c .before)) (ne-eqb _ 1 (c .if5 .taken)) v
 
 locked-requires : tie.Need-locked-requires
 locked-requires c κs = search needs
 
 returns-6 : tie.Need-returns-6
-returns-6 c im v = stop9 (on8 (c .before .before) v) refl (sym (c .before .locked .ensures) ∙ c .if6 .taken) im
+returns-6 c v = stop9 (on8 (c .before .before) v) refl (sym (c .before .locked .ensures) ∙ c .if6 .taken)
 
 returns-7 : tie.Need-returns-7
-returns-7 c im v = past10 (past9 (on8 (c .before .before) v) (sym (c .before .locked .ensures) ∙ c .if6 .left)) im refl
+returns-7 c v = past9 (on8 (c .before .before) v) (sym (c .before .locked .ensures) ∙ c .if6 .left)
 
 pub change-order-spec : {M : Type 1} → statement M
 change-order-spec =

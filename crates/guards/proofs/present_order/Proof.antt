@@ -22,31 +22,31 @@ onP3 : (c : tie.Else4) → let a = c .before .before .before .before .before .be
 onP3 c = pastP3 (on6 (c .before .before .before)) (eq-eqb _ _ (c .if4 .left ∙ ap (λ (f : Facts). f .digits) (c .before .before .facts2 .ensures)))
 
 returns : tie.Need-returns
-returns c im v = stop4 (past3 refl) refl (c .if1 .taken) im v
+returns c v = stop4 (past3 refl) refl (c .if1 .taken) v
 
 facts-requires : tie.Need-facts-requires
 facts-requires c κs = search needs
 
 returns-2 : tie.Need-returns-2
-returns-2 c im v = stop5 (on4 (c .before .before .before)) (sym (ap (λ (f : Facts). f .coded) (c .before .before .facts .ensures)) ∙ not-true _ (c .if2 .taken)) im v
+returns-2 c v = stop5 (on4 (c .before .before .before)) (sym (ap (λ (f : Facts). f .coded) (c .before .before .facts .ensures)) ∙ not-true _ (c .if2 .taken)) v
 
 add-if3 : tie.Need-add-if3
 add-if3 c = search needs
 
 returns-3 : tie.Need-returns-3
-returns-3 c im v = stop6 (on5 (c .before)) (c .if3 .taken) im v
+returns-3 c v = stop6 (on5 (c .before)) (c .if3 .taken) v
 
 facts-requires-2 : tie.Need-facts-requires-2
 facts-requires-2 c κs = search needs
 
 returns-4 : tie.Need-returns-4
-returns-4 c im v = stopP3 (on6 (c .before .before .before)) (ne-eqb _ _ (λ e. c .if4 .taken (e ∙ sym (ap (λ (f : Facts). f .digits) (c .before .before .facts2 .ensures))))) im v
+returns-4 c v = stopP3 (on6 (c .before .before .before)) (ne-eqb _ _ (λ e. c .if4 .taken (e ∙ sym (ap (λ (f : Facts). f .digits) (c .before .before .facts2 .ensures))))) v
 
 returns-5 : tie.Need-returns-5
-returns-5 c im v = stop7 (onP3 (c .before)) (ne-eqb _ 0 (c .if5 .taken)) im v
+returns-5 c v = stop7 (onP3 (c .before)) (ne-eqb _ 0 (c .if5 .taken)) v
 
 returns-6 : tie.Need-returns-6
-returns-6 c im v = past-all (past7 (onP3 (c .before)) (eq-eqb _ 0 (c .if5 .left))) v refl refl im refl
+returns-6 c v = past-all (past7 (onP3 (c .before)) (eq-eqb _ 0 (c .if5 .left))) v refl refl
 
 pub present-order-spec : {M : Type 1} → statement M
 present-order-spec =

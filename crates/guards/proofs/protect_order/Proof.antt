@@ -8,7 +8,7 @@ use borrow.Author.Tests.{eq-eqb, ne-eqb, le-leb, lt-leb}
 use Rattle.chips.specs.declared.Facts.{Facts}
 use Rattle.chips.specs.Kinds.{facts}
 use Rattle.steps.specs.Steps.{Protect}
-use Rattle.steps.proofs.StepLaws.{Past4, Past5, Past6, PastP3, Past8, past3, past4, past5, past6, pastP3, past7, past8, past9, past10, stop4, stop5, stop6, stopP3, stop7, stop9}
+use Rattle.steps.proofs.StepLaws.{Past4, Past5, Past6, PastP3, Past8, past3, past4, past5, past6, pastP3, past7, past8, past9, stop4, stop5, stop6, stopP3, stop7, stop9}
 use Rattle.guards.proofs.protect_order.Statement.{statement}
 use Rattle.guards.proofs.protect_order.Tie as tie
 
@@ -35,22 +35,22 @@ on8 c v =
     v refl
 
 returns : tie.Need-returns
-returns c im v = stop4 (past3 refl) refl (c .if1 .taken) im v
+returns c v = stop4 (past3 refl) refl (c .if1 .taken) v
 
 facts-requires : tie.Need-facts-requires
 facts-requires c κs = search needs
 
 returns-2 : tie.Need-returns-2
-returns-2 c im v = stop5 (on4 (c .before .before .before)) (ap not (eq-eqb _ 0 (sym (ap (λ (f : Facts). f .covered) (c .before .before .facts .ensures)) ∙ c .if2 .taken))) im v
+returns-2 c v = stop5 (on4 (c .before .before .before)) (ap not (eq-eqb _ 0 (sym (ap (λ (f : Facts). f .covered) (c .before .before .facts .ensures)) ∙ c .if2 .taken))) v
 
 add-if3 : tie.Need-add-if3
 add-if3 c = search needs
 
 returns-3 : tie.Need-returns-3
-returns-3 c im v = stop6 (on5 (c .before)) (c .if3 .taken) im v
+returns-3 c v = stop6 (on5 (c .before)) (c .if3 .taken) v
 
 returns-4 : tie.Need-returns-4
-returns-4 c im v = stopP3 (on6 (c .before)) (lt-leb 1 _ (c .if4 .taken)) im v
+returns-4 c v = stopP3 (on6 (c .before)) (lt-leb 1 _ (c .if4 .taken)) v
 
 facts-requires-2 : tie.Need-facts-requires-2
 facts-requires-2 c κs = search needs
@@ -59,21 +59,21 @@ add-if5 : tie.Need-add-if5
 add-if5 c = search needs
 
 returns-5 : tie.Need-returns-5
-returns-5 c im v =
+returns-5 c v =
     let start = c .before .before .before .before .before .before .before .before .before .before in
     let a = start .args in
     stop7 (onP3 (c .before .before .before))
     (lt-leb (a .at + a .p) (facts (a .chip) .reach) (omega (arith, c .if5 .taken, ap (λ (f : Facts). f .reach) (c .before .before .facts2 .ensures))))
-    im v
+    v
 
 locked-requires : tie.Need-locked-requires
 locked-requires c κs = search needs
 
 returns-6 : tie.Need-returns-6
-returns-6 c im v = stop9 (on8 (c .before .before) v) refl (sym (c .before .locked .ensures) ∙ c .if6 .taken) im
+returns-6 c v = stop9 (on8 (c .before .before) v) refl (sym (c .before .locked .ensures) ∙ c .if6 .taken)
 
 returns-7 : tie.Need-returns-7
-returns-7 c im v = past10 (past9 (on8 (c .before .before) v) (sym (c .before .locked .ensures) ∙ c .if6 .left)) im refl
+returns-7 c v = past9 (on8 (c .before .before) v) (sym (c .before .locked .ensures) ∙ c .if6 .left)
 
 pub protect-order-spec : {M : Type 1} → statement M
 protect-order-spec =

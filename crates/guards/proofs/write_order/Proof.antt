@@ -1,92 +1,52 @@
--- `write_order` meets its contract: its tests are the steps, in their order, and the search is the last of them.
+-- `write_order` meets its contract: its tests are the steps, in their order.
 use borrow.Author.Needs.{needs}
-use mathlib.Core.Path.{_≡_, refl, sym, ap, _∙_}
-use native.Mathlib.Omega.{arith}
+use mathlib.Core.Path.{refl, sym, _∙_}
 use Prim.Native.Nat.{ℕ}
 use borrow.Author.Tests.{le-leb, lt-leb, not-true, not-false}
-use Rattle.chips.specs.declared.Facts.{Facts}
 use Rattle.chips.specs.Kinds.{facts}
-use Rattle.chips.proofs.KindLaws.{laid}
-use Rattle.bits.specs.Bits.{firstProtected}
-use Rattle.steps.specs.Steps.{Write, found}
-use Rattle.steps.proofs.StepLaws.{Past4, Past6, PastP3, Past8, Past9, past3, past4, past5, past6, pastP3, past7, past8, past9, past10, stop4, stop6, stopP3, stop7, stop9, stop10}
+use Rattle.steps.specs.Steps.{Write}
+use Rattle.steps.proofs.StepLaws.{Past4, Past6, PastP3, Past8, past3, past4, past5, past6, pastP3, past7, past8, past9, stop4, stop6, stopP3, stop7, stop9}
 use Rattle.guards.proofs.write_order.Statement.{statement}
 use Rattle.guards.proofs.write_order.Tie as tie
 
-on4 : (c : tie.Else1) → let a = c .before .before .before .args in Past4 (facts (a .chip)) (a .slot) (a .n) (a .at) (a .p) Write
+on4 : (c : tie.Else1) → let a = c .before .before .args in Past4 (facts (a .chip)) (a .slot) (a .n) (a .at) (a .p) Write
 on4 c = past4 (past3 refl) (c .if1 .left)
 
-on6 : (c : tie.Else2) → let a = c .before .before .before .before .args in Past6 (facts (a .chip)) (a .slot) (a .n) (a .at) (a .p) Write
+on6 : (c : tie.Else2) → let a = c .before .before .before .args in Past6 (facts (a .chip)) (a .slot) (a .n) (a .at) (a .p) Write
 on6 c = past6 (past5 (on4 (c .before)) refl) (c .if2 .left)
 
-onP3 : (c : tie.Else3) → let a = c .before .before .before .before .before .args in PastP3 (facts (a .chip)) (a .slot) (a .n) (a .at) (a .p) Write
+onP3 : (c : tie.Else3) → let a = c .before .before .before .before .args in PastP3 (facts (a .chip)) (a .slot) (a .n) (a .at) (a .p) Write
 onP3 c = pastP3 (on6 (c .before)) (le-leb 1 _ (c .if3 .left))
 
-on8 : (c : tie.Else4) (v : ℕ) → let a = c .before .before .before .before .before .before .before .args in Past8 (facts (a .chip)) (a .slot) (a .n) (a .at) (a .p) Write v
+on8 : (c : tie.Else4) (v : ℕ) → let a = c .before .before .before .before .before .before .args in Past8 (facts (a .chip)) (a .slot) (a .n) (a .at) (a .p) Write v
 on8 c v = past8 (past7 (onP3 (c .before .before)) (sym (c .before .write-place .ensures) ∙ not-false _ (c .if4 .left))) v refl
 
-on9 : (c : tie.Else5) (v : ℕ) → let a = c .before .before .before .before .before .before .before .before .before .args in
-    Past9 (facts (a .chip)) (a .slot) (a .n) (a .at) (a .p) Write v
-on9 c v =
-    past9 (on8 (c .before .before) v) (sym (c .before .locked .ensures) ∙ c .if5 .left)
-
 returns : tie.Need-returns
-returns c v = stop4 (past3 refl) refl (c .if1 .taken) _ v
+returns c v = stop4 (past3 refl) refl (c .if1 .taken) v
 
 add-if2 : tie.Need-add-if2
 add-if2 c = search needs
 
 returns-2 : tie.Need-returns-2
-returns-2 c v = stop6 (past5 (on4 (c .before)) refl) (c .if2 .taken) _ v
+returns-2 c v = stop6 (past5 (on4 (c .before)) refl) (c .if2 .taken) v
 
 returns-3 : tie.Need-returns-3
-returns-3 c v = stopP3 (on6 (c .before)) (lt-leb 1 _ (c .if3 .taken)) _ v
+returns-3 c v = stopP3 (on6 (c .before)) (lt-leb 1 _ (c .if3 .taken)) v
 
 write-place-requires : tie.Need-write-place-requires
 write-place-requires c κs = search needs
 
 returns-4 : tie.Need-returns-4
-returns-4 c v = stop7 (onP3 (c .before .before)) (sym (c .before .write-place .ensures) ∙ not-true _ (c .if4 .taken)) _ v
+returns-4 c v = stop7 (onP3 (c .before .before)) (sym (c .before .write-place .ensures) ∙ not-true _ (c .if4 .taken)) v
 
 locked-requires : tie.Need-locked-requires
 locked-requires c κs = search needs
 
 returns-5 : tie.Need-returns-5
-returns-5 c v = stop9 (on8 (c .before .before) v) refl (sym (c .before .locked .ensures) ∙ c .if5 .taken) _
-
-facts-requires : tie.Need-facts-requires
-facts-requires c κs = search needs
-
-facts-requires-2 : tie.Need-facts-requires-2
-facts-requires-2 c κs = search needs
-
-first-protected-requires : tie.Need-first-protected-requires
-first-protected-requires c κs =
-    let start = c .before .before .before .before .before .before .before .before .before .before .before in
-    let chip = start .args .chip in (
-      omega (arith, ap (λ (f : Facts). f .bits) (c .before .facts .ensures), ap (λ (f : Facts). f .covered) (c .facts2 .ensures), laid chip .guards, start .pre .2),
-      omega arith,
-    )
-
-enum-told : tie.Need-enum-told
-enum-told c = search needs
-
-enum-told-2 : tie.Need-enum-told-2
-enum-told-2 c = search needs
-
--- what the search found is the rule's
-searched : (c : tie.After-first-protected) → let a = c .before .before .before .before .before .before .before .before .before .before .before .before .args in
-    c .first-protected .result ≡ firstProtected (facts (a .chip) .bits) (facts (a .chip) .covered) (a .image .now) (a .at) (a .p)
-searched c =
-    let bits = c .before .before .facts .ensures in
-    let covered = c .before .facts2 .ensures in
-    cc
+returns-5 c v = stop9 (on8 (c .before .before) v) refl (sym (c .before .locked .ensures) ∙ c .if5 .taken)
 
 returns-6 : tie.Need-returns-6
-returns-6 c v = stop10 (on9 (c .before .before .before .before .before) v) _ (ap found (sym (searched (c .before .before)) ∙ c .enum-told .given .1))
-
-returns-7 : tie.Need-returns-7
-returns-7 c v = past10 (on9 (c .before .before .before .before .before) v) _ (ap found (sym (searched (c .before .before)) ∙ c .enum-told2 .given .1))
+returns-6 c v = past9 (on8 (c .before .before) v) (sym (c .before .locked .ensures) ∙ c .if5 .left)
 
 pub write-order-spec : {M : Type 1} → statement M
 write-order-spec =
@@ -100,10 +60,4 @@ write-order-spec =
     returns-4
     locked-requires
     returns-5
-    facts-requires
-    facts-requires-2
-    first-protected-requires
-    enum-told
-    enum-told-2
-    returns-6
-    returns-7)
+    returns-6)

@@ -107,7 +107,7 @@ run-inside c =
     let l = c .before .before .before .before .before .loop in
     let n : ℕ = length (a .image .now) in
     let e : length (l .image) ≡ n = l .inv .2 in
-    let whole : n % a .chip ≡ 0 = start .pre .3 .whole (omega arith) in
+    let whole : n % a .chip ≡ 0 = start .pre .3 .whole in
     let cut = c .before .before .before .cut-start .result in
     let to : c .before .before .landing .result < n =
     rw (c .before .before .landing .ensures) (lands-inside (a .chip) cut (a .at + l .i) n (omega arith) (cut-before (c .before .before .before)) (omega arith) whole) in

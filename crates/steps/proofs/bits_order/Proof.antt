@@ -25,22 +25,22 @@ onP3 : (c : tie.Else4) → let a = c .before .before .before .before .before .be
 onP3 c = pastP3 (on6 (c .before .before)) (sym (c .before .bits-length .ensures) ∙ not-false _ (c .if4 .left))
 
 returns : tie.Need-returns
-returns c im v = stop4 (past3 refl) refl (c .if1 .taken) im v
+returns c v = stop4 (past3 refl) refl (c .if1 .taken) v
 
 facts-requires : tie.Need-facts-requires
 facts-requires c κs = search needs
 
 returns-2 : tie.Need-returns-2
-returns-2 c im v = stop5 (on4 (c .before .before .before)) (ap not (eq-eqb _ 0 (sym (ap (λ (f : Facts). f .covered) (c .before .before .facts .ensures)) ∙ c .if2 .taken))) im v
+returns-2 c v = stop5 (on4 (c .before .before .before)) (ap not (eq-eqb _ 0 (sym (ap (λ (f : Facts). f .covered) (c .before .before .facts .ensures)) ∙ c .if2 .taken))) v
 
 returns-3 : tie.Need-returns-3
-returns-3 c im v = stop6 (on5 (c .before)) (c .if3 .taken) im v
+returns-3 c v = stop6 (on5 (c .before)) (c .if3 .taken) v
 
 bits-length-requires : tie.Need-bits-length-requires
 bits-length-requires c κs = search needs
 
 returns-4 : tie.Need-returns-4
-returns-4 c im v = stopP3 (on6 (c .before .before)) (sym (c .before .bits-length .ensures) ∙ not-true _ (c .if4 .taken)) im v
+returns-4 c v = stopP3 (on6 (c .before .before)) (sym (c .before .bits-length .ensures) ∙ not-true _ (c .if4 .taken)) v
 
 facts-requires-2 : tie.Need-facts-requires-2
 facts-requires-2 c κs = search needs
@@ -52,20 +52,20 @@ add-if5 : tie.Need-add-if5
 add-if5 c = search needs
 
 returns-5 : tie.Need-returns-5
-returns-5 c im v =
+returns-5 c v =
     let start = c .before .before .before .before .before .before .before .before .before .before .before in
     let a = start .args in
     stop7 (onP3 (c .before .before .before))
     (lt-leb (a .at + 8 * a .p) (facts (a .chip) .covered)
-    (omega (arith, ap (λ (f : Facts). f .covered) (c .before .before .facts2 .ensures), c .if5 .taken))) im v
+    (omega (arith, ap (λ (f : Facts). f .covered) (c .before .before .facts2 .ensures), c .if5 .taken))) v
 
 returns-6 : tie.Need-returns-6
-returns-6 c im v =
+returns-6 c v =
     let start = c .before .before .before .before .before .before .before .before .before .before .before in
     let a = start .args in
     past-all (past7 (onP3 (c .before .before .before))
     (le-leb (a .at + 8 * a .p) (facts (a .chip) .covered)
-    (omega (arith, ap (λ (f : Facts). f .covered) (c .before .before .facts2 .ensures), c .if5 .left)))) v refl refl im refl
+    (omega (arith, ap (λ (f : Facts). f .covered) (c .before .before .facts2 .ensures), c .if5 .left)))) v refl refl
 
 pub bits-order-spec : {M : Type 1} → statement M
 bits-order-spec =

@@ -31,41 +31,41 @@ on7 : (c : tie.Else5) → let a = c .before .before .before .before .before .bef
 on7 c = past7 (onP3 (c .before)) (eq-eqb _ 0 (c .if5 .left))
 
 returns : tie.Need-returns
-returns c im = stop4 (past3 refl) refl (c .if1 .taken) im _
+returns c = stop4 (past3 refl) refl (c .if1 .taken) _
 
 facts-requires : tie.Need-facts-requires
 facts-requires c κs = search needs
 
 returns-2 : tie.Need-returns-2
-returns-2 c im = stop5 (on4 (c .before .before .before)) (ap not (eq-eqb _ 0 (sym (ap (λ (f : Facts). f .page) (c .before .before .facts .ensures)) ∙ c .if2 .taken))) im _
+returns-2 c = stop5 (on4 (c .before .before .before)) (ap not (eq-eqb _ 0 (sym (ap (λ (f : Facts). f .page) (c .before .before .facts .ensures)) ∙ c .if2 .taken))) _
 
 add-if3 : tie.Need-add-if3
 add-if3 c = search needs
 
 returns-3 : tie.Need-returns-3
-returns-3 c im = stop6 (on5 (c .before)) (c .if3 .taken) im _
+returns-3 c = stop6 (on5 (c .before)) (c .if3 .taken) _
 
 returns-4 : tie.Need-returns-4
-returns-4 c im = stopP3 (on6 (c .before)) (ne-eqb _ 1 (c .if4 .taken)) im _
+returns-4 c = stopP3 (on6 (c .before)) (ne-eqb _ 1 (c .if4 .taken)) _
 
 returns-5 : tie.Need-returns-5
-returns-5 c im = stop7 (onP3 (c .before)) (ne-eqb _ 0 (c .if5 .taken)) im _
+returns-5 c = stop7 (onP3 (c .before)) (ne-eqb _ 0 (c .if5 .taken)) _
 
 returns-6 : tie.Need-returns-6
-returns-6 c im = stop8 (on7 (c .before)) _ (sym (and-fails _ (lt-leb 3 _ (c .if6 .taken)))) im
+returns-6 c = stop8 (on7 (c .before)) _ (sym (and-fails _ (lt-leb 3 _ (c .if6 .taken))))
 
 returns-7 : tie.Need-returns-7
-returns-7 c im = stop8 (on7 (c .before .before)) _ (sym (and-holds (le-leb 3 _ (c .before .if6 .left)) (sym (lt-leb _ 7 (c .if7 .taken))))) im
+returns-7 c = stop8 (on7 (c .before .before)) _ (sym (and-holds (le-leb 3 _ (c .before .if6 .left)) (sym (lt-leb _ 7 (c .if7 .taken)))))
 
 shl-t17 : tie.Need-shl-t17
 shl-t17 c = search needs
 
 returns-8 : tie.Need-returns-8
-returns-8 c im =
+returns-8 c =
     let v = c .before .before .before .before .before .before .before .before .before .before .args .v in
     let small : 2 ^ v ≤ 2 ^ 7 = pow-mono (c .if7 .left) in
     let e : 1 * 2 ^ v % 256 ≡ 2 ^ v = omega (arith, small) in
-    ap Order.Page e ∙ past-all (on7 (c .before .before)) v (both (le-leb 3 _ (c .before .if6 .left)) (le-leb _ 7 (c .if7 .left))) refl im refl
+    ap Order.Page e ∙ past-all (on7 (c .before .before)) v (both (le-leb 3 _ (c .before .if6 .left)) (le-leb _ 7 (c .if7 .left))) refl
 
 pub page-order-spec : {M : Type 1} → statement M
 page-order-spec =

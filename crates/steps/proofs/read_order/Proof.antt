@@ -21,13 +21,13 @@ onP3 : (c : tie.Else3) → let a = c .before .before .before .before .args in Pa
 onP3 c = pastP3 (on6 (c .before)) (le-leb 1 _ (c .if3 .left))
 
 returns : tie.Need-returns
-returns c im v = stop4 (past3 refl) refl (c .if1 .taken) im v
+returns c v = stop4 (past3 refl) refl (c .if1 .taken) v
 
 returns-2 : tie.Need-returns-2
-returns-2 c im v = stop6 (past5 (on4 (c .before)) refl) (c .if2 .taken) im v
+returns-2 c v = stop6 (past5 (on4 (c .before)) refl) (c .if2 .taken) v
 
 returns-3 : tie.Need-returns-3
-returns-3 c im v = stopP3 (on6 (c .before)) (lt-leb 1 _ (c .if3 .taken)) im v
+returns-3 c v = stopP3 (on6 (c .before)) (lt-leb 1 _ (c .if3 .taken)) v
 
 facts-requires : tie.Need-facts-requires
 facts-requires c κs = search needs
@@ -36,20 +36,20 @@ add-if4 : tie.Need-add-if4
 add-if4 c = search needs
 
 returns-4 : tie.Need-returns-4
-returns-4 c im v =
+returns-4 c v =
     let start = c .before .before .before .before .before .before .before in
     let a = start .args in
     stop7 (onP3 (c .before .before .before))
     (lt-leb (a .at + a .p) (facts (a .chip) .memory)
-    (omega (arith, ap (λ (f : Facts). f .memory) (c .before .before .facts .ensures), c .if4 .taken))) im v
+    (omega (arith, ap (λ (f : Facts). f .memory) (c .before .before .facts .ensures), c .if4 .taken))) v
 
 returns-5 : tie.Need-returns-5
-returns-5 c im v =
+returns-5 c v =
     let start = c .before .before .before .before .before .before .before in
     let a = start .args in
     past-all (past7 (onP3 (c .before .before .before))
     (le-leb (a .at + a .p) (facts (a .chip) .memory)
-    (omega (arith, ap (λ (f : Facts). f .memory) (c .before .before .facts .ensures), c .if4 .left)))) v refl refl im refl
+    (omega (arith, ap (λ (f : Facts). f .memory) (c .before .before .facts .ensures), c .if4 .left)))) v refl refl
 
 pub read-order-spec : {M : Type 1} → statement M
 read-order-spec =

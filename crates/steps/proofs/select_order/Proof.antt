@@ -22,22 +22,22 @@ add-if1 : tie.Need-add-if1
 add-if1 c = search needs
 
 returns : tie.Need-returns
-returns c im = stop6 (past5 (past4-free (past3 refl) refl) refl) (c .if1 .taken) im _
+returns c = stop6 (past5 (past4-free (past3 refl) refl) refl) (c .if1 .taken) _
 
 returns-2 : tie.Need-returns-2
-returns-2 c im = stopP3 (on6 (c .before)) (ne-eqb _ 1 (c .if2 .taken)) im _
+returns-2 c = stopP3 (on6 (c .before)) (ne-eqb _ 1 (c .if2 .taken)) _
 
 returns-3 : tie.Need-returns-3
-returns-3 c im = stop7 (onP3 (c .before)) (ne-eqb _ 0 (c .if3 .taken)) im _
+returns-3 c = stop7 (onP3 (c .before)) (ne-eqb _ 0 (c .if3 .taken)) _
 
 facts-requires : tie.Need-facts-requires
 facts-requires c κs = search needs
 
 returns-4 : tie.Need-returns-4
-returns-4 c im = stop8 (on7 (c .before .before .before)) _ (ne-eqb _ _ (λ e. c .if4 .taken (e ∙ sym (ap (λ (f : Facts). f .selects) (c .before .before .facts .ensures))))) im
+returns-4 c = stop8 (on7 (c .before .before .before)) _ (ne-eqb _ _ (λ e. c .if4 .taken (e ∙ sym (ap (λ (f : Facts). f .selects) (c .before .before .facts .ensures)))))
 
 returns-5 : tie.Need-returns-5
-returns-5 c im = past-all (on7 (c .before .before .before)) _ (eq-eqb _ _ (c .if4 .left ∙ ap (λ (f : Facts). f .selects) (c .before .before .facts .ensures))) refl im refl
+returns-5 c = past-all (on7 (c .before .before .before)) _ (eq-eqb _ _ (c .if4 .left ∙ ap (λ (f : Facts). f .selects) (c .before .before .facts .ensures))) refl
 
 pub select-order-spec : {M : Type 1} → statement M
 select-order-spec =
