@@ -1,8 +1,9 @@
 //! Counts what random sessions and cases reached, and holds a run to what it has to reach: every
-//! bError, every status word, every command on every type, or kind with protection bits, every
-//! fault of a parameter set, every refusal.
+//! bError, every status word, every command on every type, or kind with protection bits, every way
+//! that bytes of a written range are protected, every fault of a parameter set, every refusal.
 
 mod parameters;
+mod writes;
 
 use crate::case::{slot_of, Case, REST};
 use crate::parameters::Parameters;
@@ -14,49 +15,38 @@ use std::fmt;
 #[derive(Default)]
 pub struct Count(BTreeMap<String, u64>);
 
-/// What was the case before a message.
+/// The slot record and the image before a message.
 pub struct Before {
-    pub kind: u8,
-    active: bool,
-    selected: u8,
-    page: u8,
-    open: bool,
-    counter: u8,
-    /// Bytes 3FDh to 3FFh of kind 21, and whether each is protected.
-    last: [(u8, bool); 3],
-    parameters: Parameters,
+    pub slot: Slot,
+    image: Vec<u8>,
 }
 
 impl Before {
     pub fn of(slot: &Slot, image: &[u8]) -> Before {
-        let counter = Chip::of(slot.kind).and_then(|chip| image.get(chip.counter)).copied();
-        let last = match Chip::of(slot.kind) {
-            Some(chip) if chip.kind == 21 => [0x3fd, 0x3fe, 0x3ff].map(|k| (image[k], chip.protected(image, k))),
-            _ => [(0, false); 3],
-        };
-        Before {
-            kind: slot.kind,
-            active: slot.active,
-            selected: slot.selected,
-            page: slot.page,
-            open: slot.open,
-            counter: counter.unwrap_or(0),
-            last,
-            parameters: slot.parameters.clone(),
-        }
+        Before { slot: slot.clone(), image: image.to_vec() }
+    }
+
+    /// The counter of a code card, else 0.
+    fn counter(&self) -> u8 {
+        Chip::of(self.slot.kind).and_then(|chip| self.image.get(chip.counter)).copied().unwrap_or(0)
+    }
+
+    /// Whether there is a card on which the byte of that address is protected.
+    fn protected(&self, address: usize) -> bool {
+        Chip::of(self.slot.kind).map_or(false, |chip| chip.protected(&self.image, address))
     }
 
     /// What a command is sent to.
     fn on(&self) -> On {
-        match self.selected {
+        match self.slot.selected {
             0x00 => Nothing,
-            0x05 | 0x06 => Kind(self.kind),
+            0x05 | 0x06 => Kind(self.slot.kind),
             selected => Type(selected),
         }
     }
 
     fn state(&self) -> &'static str {
-        match (self.kind, self.active) {
+        match (self.slot.kind, self.slot.active) {
             (0, _) => "no card",
             (_, false) => "inactive",
             (_, true) => "active",
@@ -65,7 +55,7 @@ impl Before {
 
     /// Whether the set is another than the default.
     pub fn has_other_set(&self) -> bool {
-        self.parameters != Parameters::default()
+        self.slot.parameters != Parameters::default()
     }
 }
 
@@ -138,7 +128,8 @@ impl Count {
         let (kind, status, error) = (message[0], answer[7], answer[8]);
         let came = message.len() - 10;
         self.add(format!("bStatus {:02X}h", status));
-        if before.last[0].1 {
+        // On kind 20 it never is.
+        if before.protected(0x3fd) {
             self.add("kind 21, bit for 3FDh is 0: answered".to_string());
         }
         if status & 0x40 != 0 {
@@ -168,7 +159,7 @@ impl Count {
             if kind == 0x62 {
                 self.add(format!(
                     "62h, kind {}: {}",
-                    before.kind,
+                    before.slot.kind,
                     if answer[1] == 2 { "3B 00" } else { "3B 04 and memory" }
                 ));
             }
@@ -194,26 +185,22 @@ impl Count {
         if !INS.contains(&ins) {
             return self.add(format!("{}: INS none: {:04X}", on, word));
         }
-        let full = if before.selected == 0x05 { 0x90ff } else { 0x9007 };
+        let full = if before.slot.selected == 0x05 { 0x90ff } else { 0x9007 };
         match (ins, word) {
-            (0x20, _) if word >> 8 == 0x90 && before.counter == 0 => {
+            (0x20, _) if word >> 8 == 0x90 && before.counter() == 0 => {
                 self.add(format!("{}: 20 without tries: {:04X}", on, word))
             }
             (0x20, _) if word == full => {
-                self.add(format!("{}: 20 right with {} tries", on, before.counter.count_ones()));
+                self.add(format!("{}: 20 right with {} tries", on, before.counter().count_ones()));
             }
             (0x20, _) if word >> 8 == 0x90 => {
                 self.add(format!("{}: 20 wrong, {} tries left", on, (word & 0xff).count_ones()));
-                if before.kind == 30 {
+                if before.slot.kind == 30 {
                     self.add(format!("{}: 20 wrong: {:04X}", on, word));
                 }
-                if before.open {
+                if before.slot.open {
                     self.add(format!("{}: 20 wrong closes an open card", on));
                 }
-            }
-            (0xd0..=0xd2, 0x6982) => {
-                let why = if matches!(on, Kind(20 | 30)) && !before.open { "closed" } else { "protected" };
-                self.add(format!("{}: {:02X}: 6982 {}", on, ins, why));
             }
             _ => self.add(format!("{}: {:02X}: {:04X}", on, ins, word)),
         }
@@ -222,41 +209,34 @@ impl Count {
             (Kind(20), 0xd0, 0x6b00) if covers(0x3fd) && place + p3 <= 1024 => {
                 self.add("D0 over 3FDh: 6B00".to_string())
             }
-            (Kind(20), 0xd0, 0x9000) if covers(0x3fe) || covers(0x3ff) => {
-                self.add("D0 over the code: 9000".to_string())
-            }
+            (Kind(_), 0xd0, 0x9000 | 0x6581 | 0x6982) => self.write(before, apdu, word),
             (Kind(20), 0xb0, 0x9000) if covers(0x3fe) || covers(0x3ff) => {
-                self.add(format!("B0 of the code, {}", if before.open { "open" } else { "closed" }));
+                self.add(format!("B0 of the code, {}", if before.slot.open { "open" } else { "closed" }));
             }
             (Kind(21 | 31), 0xb1 | 0x20 | 0xd2, 0x6d00) => {
-                let right = LACKED.contains(&(before.kind, ins, apdu[4], apdu.len()));
+                let right = LACKED.contains(&(before.slot.kind, ins, apdu[4], apdu.len()));
                 self.add(format!("{}: {:02X} of a {} length: 6D00", on, ins, if right { "right" } else { "wrong" }));
             }
             (Kind(21), ..) => self.last_bytes(before, apdu, told, word),
-            (Type(_), 0xd0, 0x9000) => self.add(format!("D0 on kind {}, reader page {}", before.kind, before.page)),
+            (Type(_), 0xd0, 0x9000) => self.page_write(before, apdu, word),
             (Type(_), 0x01, 0x9000) => self.add(format!("{}: page code {:02X}h", on, apdu[5])),
             _ => {}
         }
     }
 
-    /// A command on kind 21: what it does to bytes 3FDh to 3FFh, each on its own.
+    /// A command on kind 21 but for D0: what it does with bytes 3FDh to 3FFh, each on its own.
     fn last_bytes(&mut self, before: &Before, apdu: &[u8], told: &[u8], word: u16) {
         let (ins, place, p3) = (apdu[1], usize::from(apdu[2]) * 256 + usize::from(apdu[3]), usize::from(apdu[4]));
         let count = if ins == 0xb2 { 8 * p3 } else { p3 };
-        for (address, (byte, protected)) in (0x3fd..).zip(before.last) {
+        for address in 0x3fd..=0x3ff {
             if !(place..place + count).contains(&address) {
                 continue;
             }
             let k = address - place;
-            let what = match (ins, word, protected) {
+            let what = match (ins, word, before.protected(address)) {
                 (0xb0, 0x9000, _) if told[k] != 0x00 => "in clear",
                 (0xb2, 0x9000, true) => "protected",
-                (0xd0, 0x9000, _) => "stored",
-                // The first byte of the range that is protected ends the search.
-                (0xd0, 0x6982, true) if place >= 0x3fd => {
-                    return self.add(format!("kind 21: D0 of {:03X}h, protected: 6982", address));
-                }
-                (0xd1, 0x9000, false) if apdu[5 + k] == byte => "now protected",
+                (0xd1, 0x9000, false) if apdu[5 + k] == before.image[address] => "now protected",
                 (0xd1, 0x9000, false) => "passed over",
                 _ => continue,
             };
@@ -340,11 +320,6 @@ fn answers() -> Vec<String> {
     }
     for chip in &CHIPS {
         goal(format!("62h, kind {}: {}", chip.kind, if chip.has_bits() { "3B 04 and memory" } else { "3B 00" }));
-        if !chip.has_bits() {
-            for page in [8, 16, 32, 64, 128] {
-                goal(format!("D0 on kind {}, reader page {}", chip.kind, page));
-            }
-        }
     }
     goal("261 data bytes reach the commands".to_string());
     for n in 0..5 {
@@ -373,13 +348,9 @@ fn answers() -> Vec<String> {
             goal(format!("{}: page code {:02X}h", on, code));
         }
     }
-    for (on, tries) in [(Kind(20), 8), (Kind(21), 0), (Kind(30), 3), (Kind(31), 0)] {
-        goal(format!("{}: D0: 6982 protected", on));
-        if tries == 0 {
-            continue;
-        }
-        goal(format!("{}: D0: 6982 closed", on));
-        goal(format!("{}: D1: 6982 closed", on));
+    for (on, tries) in [(Kind(20), 8), (Kind(30), 3)] {
+        goal(format!("{}: D0: 6982", on));
+        goal(format!("{}: D1: 6982", on));
         for left in 0..tries {
             goal(format!("{}: 20 wrong, {} tries left", on, left));
             goal(format!("{}: 20 right with {} tries", on, left + 1));
@@ -398,21 +369,19 @@ fn answers() -> Vec<String> {
         let mut goal = |ins: u8, what: &str| goal(format!("kind 21: {:02X} of {:03X}h, {}", ins, address, what));
         goal(0xb0, "in clear: 9000");
         goal(0xb2, "protected: 9000");
-        goal(0xd0, "stored: 9000");
-        goal(0xd0, "protected: 6982");
         goal(0xd1, "now protected: 9000");
         goal(0xd1, "passed over: 9000");
     }
     for what in [
         "kind 21, bit for 3FDh is 0: answered",
-        "kind 30: D2: 6982 closed",
+        "kind 30: D2: 6982",
         "D0 over 3FDh: 6B00",
-        "D0 over the code: 9000",
         "B0 of the code, open",
         "B0 of the code, closed",
     ] {
         goal(what.to_string());
     }
+    goals.extend(writes::answers());
     goals.extend(parameters::answers());
     goals
 }
@@ -451,6 +420,7 @@ pub fn session_goals() -> Vec<String> {
         goals.push(why.to_string());
     }
     goals.extend(parameters::in_sessions());
+    goals.extend(writes::in_sessions());
     goals.push("an equal message again".to_string());
     for length in 0..10 {
         goals.push(format!("msg 2: {} bytes", length));
@@ -509,18 +479,28 @@ mod tests {
         }
     }
 
-    /// What is counted of these data of a 6Fh, beside the status word of the command. Bytes 3FDh to
-    /// 3FFh of the kind 21 are 00 C2 C3, and 3FEh alone is protected.
-    fn counted(apdu: &[u8]) -> Vec<String> {
-        let mut slot = Slot { kind: 21, active: true, selected: 0x05, ..Slot::empty() };
-        let mut image = [&[0x55; 0x3fd][..], &[0x00, 0xc2, 0xc3], &[0xff; 127], &[0xbf]].concat();
-        let before = Before::of(&slot, &image);
+    /// An active card with its type selected, open where it has a code.
+    pub(super) fn ready(kind: u8) -> Slot {
+        let chip = Chip::of(kind).unwrap();
+        Slot { kind, active: true, selected: chip.select, open: chip.has_code(), ..Slot::empty() }
+    }
+
+    /// What is counted of these data of a 6Fh under the card's kind.
+    pub(super) fn counted_on(slot: &Slot, image: &[u8], apdu: &[u8]) -> Vec<String> {
+        let before = Before::of(slot, image);
         let message = [&[0x6f, apdu.len() as u8, 0, 0, 0, 0, 0, 0, 0, 0], apdu].concat();
         let mut answer = [0; ANSWER_BUFFER];
-        let length = reader::message(&mut slot, &mut image, &message, &mut answer).unwrap();
+        let length = reader::message(&mut slot.clone(), &mut image.to_vec(), &message, &mut answer).unwrap();
         let mut count = Count::default();
         count.answer(&before, &message, &crate::step::hex(&answer[..length]));
-        count.0.into_keys().filter_map(|what| Some(what.strip_prefix("kind 21: ")?.to_string())).collect()
+        let kind = format!("kind {}: ", slot.kind);
+        count.0.into_keys().filter_map(|what| Some(what.strip_prefix(&kind)?.to_string())).collect()
+    }
+
+    /// Bytes 3FDh to 3FFh of the kind 21 are 00 C2 C3, and 3FEh alone is protected.
+    fn counted(apdu: &[u8]) -> Vec<String> {
+        let image = [&[0x55; 0x3fd][..], &[0x00, 0xc2, 0xc3], &[0xff; 127], &[0xbf]].concat();
+        counted_on(&ready(21), &image, apdu)
     }
 
     #[test]
@@ -531,12 +511,6 @@ mod tests {
         );
         assert_eq!(counted(&[0xff, 0xb2, 0x03, 0xf8, 1]), ["B2 of 3FEh, protected: 9000", "B2: 9000"]);
         assert_eq!(counted(&[0xff, 0xb2, 0x03, 0xf6, 1]), ["B2: 9000"]);
-        assert_eq!(counted(&[0xff, 0xd0, 0x03, 0xfd, 1, 7]), ["D0 of 3FDh, stored: 9000", "D0: 9000"]);
-        assert_eq!(counted(&[0xff, 0xd0, 0x03, 0xfc, 1, 7]), ["D0: 9000"]);
-        assert_eq!(
-            counted(&[0xff, 0xd0, 0x03, 0xfd, 3, 7, 7, 7]),
-            ["D0 of 3FEh, protected: 6982", "D0: 6982 protected"]
-        );
         assert_eq!(
             counted(&[0xff, 0xd1, 0x03, 0xfd, 3, 0x00, 0xc2, 0x00]),
             ["D1 of 3FDh, now protected: 9000", "D1 of 3FFh, passed over: 9000", "D1: 9000"]

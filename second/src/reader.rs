@@ -106,6 +106,11 @@ impl Chip {
         k < self.protectable && image[self.protection + k / 8] & (1 << (k % 8)) == 0
     }
 
+    /// Protects byte k of the memory, which has a bit.
+    pub fn protect(&self, image: &mut [u8], k: usize) {
+        image[self.protection + k / 8] &= !(1 << (k % 8));
+    }
+
     /// Whether the image is one of this chip: its length; then a 4442's counter is at most 07h, a
     /// 4428's bit for 3FDh is 1, and a 4432's last four bytes are 00h.
     fn fits(&self, image: &[u8]) -> bool {
@@ -345,6 +350,7 @@ const NOTHING_SELECTED: u16 = 0x6985;
 const WRONG_PLACE: u16 = 0x6b00;
 const WRONG_VALUE: u16 = 0x6a80;
 const NOT_ALLOWED: u16 = 0x6982;
+const NOT_AS_SENT: u16 = 0x6581;
 const DONE: u16 = 0x9000;
 
 /// The card in the slot. Its image is the chip's own and its slot record is sound.
@@ -488,20 +494,26 @@ fn write_pages(card: &mut Card, given: &Given, _: &mut Data) -> u16 {
     DONE
 }
 
-/// D0 on a card with protection bits.
+/// D0 on a card with protection bits: a byte at a time, and the chip passes over a protected one.
 fn write(card: &mut Card, given: &Given, _: &mut Data) -> u16 {
-    let range = given.place..given.place + given.p3;
-    if range.clone().any(|address| card.chip.protected(card.image, address)) {
-        return NOT_ALLOWED;
+    let mut all_as_sent = true;
+    for (address, &byte) in (given.place..).zip(given.data) {
+        if !card.chip.protected(card.image, address) {
+            card.image[address] = byte;
+        }
+        all_as_sent &= card.image[address] == byte;
     }
-    card.image[range].copy_from_slice(given.data);
-    DONE
+    if all_as_sent {
+        DONE
+    } else {
+        NOT_AS_SENT
+    }
 }
 
 fn protect(card: &mut Card, given: &Given, _: &mut Data) -> u16 {
     for (address, &byte) in (given.place..).zip(given.data) {
         if card.image[address] == byte {
-            card.image[card.chip.protection + address / 8] &= !(1 << (address % 8));
+            card.chip.protect(card.image, address);
         }
     }
     DONE

@@ -33,7 +33,7 @@ fn deserved(before: &Before, message: &[u8]) -> Vec<u8> {
         0x0d => at(13).map_or(false, |byte| t1 && byte >= 0xa0),
         0x0e => at(14).map_or(false, |byte| byte > 3),
         0x10 => at(16).map_or(false, |byte| byte != 0),
-        _ => before.kind == 0,
+        _ => before.slot.kind == 0,
     };
     ERRORS.iter().copied().filter(|&error| holds(error)).collect()
 }
@@ -44,7 +44,7 @@ impl Count {
         let (kind, status, error) = (message[0], answer[7], answer[8]);
         let failed = status & 0x40 != 0;
         let how = if failed { "failed" } else { "success" };
-        self.add(format!("{:02X}h, {} stored: {}", kind, which(&before.parameters), how));
+        self.add(format!("{:02X}h, {} stored: {}", kind, which(&before.slot.parameters), how));
         if answer[0] == 0x82 && failed {
             self.add(format!("82h failed, bStatus {:02X}h", status));
         }

@@ -24,7 +24,7 @@ impl Maker {
             return image;
         }
         let bits = chip.protection..chip.protection + chip.protectable / 8;
-        match rng.below(8) {
+        match rng.below(12) {
             0 => image[bits].fill(0x00),
             1 => {}
             2 | 3 => {
@@ -32,14 +32,23 @@ impl Maker {
                     *byte = rng.byte() | rng.byte() | rng.byte();
                 }
             }
-            _ => {
+            // Every second byte is protected.
+            4 => image[bits].fill(rng.pick(&[0x55, 0xaa])),
+            // Some runs, or single bytes.
+            which => {
                 image[bits.clone()].fill(0xff);
+                let longest = match which {
+                    5 | 6 => 4,
+                    7 => 20,
+                    _ => 1,
+                };
                 for _ in 0..rng.below(4) {
-                    let byte = bits.start + rng.below(bits.len());
-                    image[byte] &= !(1 << rng.below(8));
+                    let first = rng.below(chip.protectable);
+                    let end = (first + 1 + rng.below(longest)).min(chip.protectable);
+                    (first..end).for_each(|k| chip.protect(&mut image, k));
                 }
                 // The code of a 4428 may be protected already, and the same bytes of a 4418.
-                if rng.chance(if chip.has_code() { 15 } else { 50 }) {
+                if rng.chance(if chip.has_code() { 30 } else { 50 }) {
                     image[bits.end - 1] &= rng.pick(&[0x1f, 0x3f, 0x5f, 0x7f, 0x9f, 0xbf, 0xdf]);
                 }
             }
@@ -105,7 +114,7 @@ impl Maker {
                 "4442 counter above 07h"
             }
             4 => {
-                image[chip.protection + chip.counter / 8] &= !(1 << (chip.counter % 8));
+                chip.protect(&mut image, chip.counter);
                 "4428 bit for 3FDh is 0"
             }
             _ => {

@@ -1,6 +1,6 @@
 //! Trial cases: whole states, most of them sound.
 
-use super::{Maker, Rng, Stream};
+use super::{chip_of, Maker, Rng, Stream};
 use crate::case::{raw, Case, LONGEST_BUFFER, LONGEST_MESSAGE, RECORD, REST};
 use crate::count::Count;
 use crate::reader::{Chip, Slot};
@@ -86,9 +86,9 @@ impl Maker {
         let chip = self.any_chip();
         self.reader.image = self.image(chip);
         self.reader.slot.parameters = self.any_set();
+        self.reader.slot.page = self.any_page();
         let slot = &mut self.reader.slot;
         slot.kind = chip.kind;
-        slot.page = 8 << self.rng.below(5);
         slot.active = self.rng.chance(94);
         if slot.active && self.rng.chance(90) {
             slot.selected = chip.select;
@@ -96,10 +96,34 @@ impl Maker {
         }
     }
 
+    /// A reader page, most often the largest, with which a write runs round on every I2C chip.
+    fn any_page(&mut self) -> u8 {
+        self.rng.pick(&[8, 16, 32, 64, 128, 128])
+    }
+
+    /// A D0 on a card with protection bits, which has its type selected and is open where it has a
+    /// code.
+    fn any_write(&mut self) -> Vec<u8> {
+        let chip = chip_of(self.rng.pick(&[20, 20, 21, 30, 31]));
+        let (mut image, open) = (self.image(chip), chip.has_code());
+        if open {
+            fill_counter(chip.kind, &mut image);
+        }
+        let (page, parameters) = (self.any_page(), self.any_set());
+        let slot = Slot { kind: chip.kind, active: true, selected: chip.select, page, open, parameters };
+        self.reader = Reader { slot, image };
+        let apdu = self.command(0xd0, chip.select);
+        self.ccid(0x6f, &apdu)
+    }
+
     /// A case: mostly sound, else with one fault or several.
     fn case(&mut self, count: &mut Count) -> Case {
-        self.any_state();
-        let message = self.message();
+        let message = if self.rng.chance(12) {
+            self.any_write()
+        } else {
+            self.any_state();
+            self.message()
+        };
         let mut case = Case {
             record: raw(&self.reader.slot),
             buffer: self.rng.pick(&[271, 271, 271, 272, 600]),
@@ -163,7 +187,7 @@ impl Maker {
         let mut other_card = |maker: &mut Maker, kind: u8| {
             if let Some(chip) = Chip::of(kind) {
                 case.image = maker.image(chip);
-                let (page, parameters) = (8 << maker.rng.below(5), maker.any_set());
+                let (page, parameters) = (maker.any_page(), maker.any_set());
                 slot = Slot { kind, active: true, selected: chip.select, page, open: false, parameters };
             }
         };

@@ -1,6 +1,7 @@
 //! The commands inside 6Fh, in their right form and spoiled.
 
 use super::Maker;
+use crate::reader::Chip;
 
 const INS: [u8; 9] = [0xa4, 0x01, 0xb0, 0xb1, 0xb2, 0xd0, 0xd1, 0x20, 0xd2];
 const LENGTHS: [usize; 24] =
@@ -18,15 +19,16 @@ const ON_CLOSED: [(usize, u8); 8] =
     [(5, 0xa4), (23, 0xb0), (8, 0xb1), (8, 0xb2), (6, 0xd0), (4, 0xd1), (41, 0x20), (5, 0xd2)];
 #[rustfmt::skip]
 const ON_OPEN: [(usize, u8); 8] =
-    [(3, 0xa4), (23, 0xb0), (5, 0xb1), (8, 0xb2), (32, 0xd0), (14, 0xd1), (6, 0x20), (9, 0xd2)];
+    [(3, 0xa4), (22, 0xb0), (6, 0xb1), (8, 0xb2), (38, 0xd0), (11, 0xd1), (5, 0x20), (7, 0xd2)];
 #[rustfmt::skip]
 const ON_WITHOUT_CODE: [(usize, u8); 8] =
     [(4, 0xa4), (24, 0xb0), (5, 0xb1), (11, 0xb2), (28, 0xd0), (18, 0xd1), (5, 0x20), (5, 0xd2)];
 
 /// Places and lengths around the counter and the code of a 4428, and the same bytes of a 4418.
 #[rustfmt::skip]
-const NEAR_CODE: [(usize, usize); 10] = [
-    (0x3fe, 2), (0x3fe, 2), (0x3fe, 1), (0x3ff, 1), (0x3fd, 1), (0x3fd, 3), (0x3fc, 1), (0x3fc, 2), (0x3fb, 5), (0x3fe, 3),
+const NEAR_CODE: [(usize, usize); 12] = [
+    (0x3fe, 2), (0x3fe, 2), (0x3fe, 2), (0x3fe, 2), (0x3fe, 1), (0x3ff, 1),
+    (0x3fd, 1), (0x3fd, 3), (0x3fc, 1), (0x3fc, 2), (0x3fb, 5), (0x3fe, 3),
 ];
 
 impl Maker {
@@ -69,7 +71,8 @@ impl Maker {
         apdu
     }
 
-    fn command(&mut self, ins: u8, form: u8) -> Vec<u8> {
+    /// A command in its right form, as the type `form` has it.
+    pub(super) fn command(&mut self, ins: u8, form: u8) -> Vec<u8> {
         let own = self.chip().map_or(form, |chip| chip.select);
         let memory = self.chip().map_or(256, |chip| chip.memory);
         let brought = |place: usize, data: Vec<u8>| {
@@ -89,14 +92,21 @@ impl Maker {
             }
             (0x01, _) => {
                 let value = if self.rng.chance(92) {
-                    0x03 + self.rng.below(5) as u8
+                    // With the largest page a write runs round on every chip.
+                    self.rng.pick(&[0x03, 0x04, 0x05, 0x06, 0x07, 0x07])
                 } else {
                     self.rng.pick(&[0x00, 0x01, 0x02, 0x08, 0x09, 0x83, 0xff])
                 };
                 brought(0, vec![value])
             }
             (0xb0, _) => {
-                let (place, count) = self.span(memory);
+                // Often the range of a write just before.
+                let (place, count) = match self.last.get(11..15) {
+                    Some(&[0xd0, high, low, count]) if self.rng.chance(40) => {
+                        (usize::from(high) * 256 + usize::from(low), usize::from(count))
+                    }
+                    _ => self.span(memory),
+                };
                 plain(place, count)
             }
             (0xb1, 0x05) => plain(0, 3),
@@ -113,9 +123,16 @@ impl Maker {
             }
             (0xb2, _) => plain(0, 4),
             (0xd0, _) => {
-                let (place, count) =
-                    if own == 0x05 && self.rng.chance(35) { self.rng.pick(&NEAR_CODE) } else { self.span(memory) };
-                let data = if self.rng.chance(15) { self.stored(place, count) } else { self.rng.bytes(count) };
+                let about = match self.chip() {
+                    Some(chip) if chip.has_bits() && self.rng.chance(45) => self.span_about_protected(chip),
+                    _ => None,
+                };
+                let (place, count) = match about {
+                    Some(span) => span,
+                    None if own == 0x05 && self.rng.chance(50) => self.rng.pick(&NEAR_CODE),
+                    None => self.span(memory),
+                };
+                let data = self.write_data(place, count);
                 brought(place, data)
             }
             (0xd1, _) => {
@@ -161,6 +178,47 @@ impl Maker {
             _ => 0,
         };
         (place.min(0xffff), count)
+    }
+
+    /// A place and a count in the memory: protected bytes alone, or a range that begins or ends with
+    /// one or has one inside. Nothing where no byte is protected.
+    fn span_about_protected(&mut self, chip: &Chip) -> Option<(usize, usize)> {
+        let (image, rng) = (&self.reader.image, &mut self.rng);
+        let protected = |k: &usize| chip.protected(image, *k);
+        let from = rng.below(chip.protectable);
+        let first = (from..chip.protectable).chain(0..from).find(protected)?;
+        let run = (first..).take_while(protected).count().min(255);
+        let count = if rng.chance(70) { 2 + rng.below(8) } else { 2 + rng.below(254) };
+        let (place, count) = match rng.below(5) {
+            0 => (first, if rng.chance(50) { run } else { 1 + rng.below(run) }),
+            1 => (first, count),
+            2 => (first.saturating_sub(count - 1), count),
+            _ => (first.saturating_sub(rng.below(count)), count),
+        };
+        Some((place, count.min(chip.memory - place)))
+    }
+
+    /// Bytes for a D0: those that stand there, or any; or any but for the protected ones, of which
+    /// all, or all but the first or the last, are as they stand there.
+    fn write_data(&mut self, place: usize, count: usize) -> Vec<u8> {
+        let stored = self.stored(place, count);
+        if self.rng.chance(15) {
+            return stored;
+        }
+        let mut data = self.rng.bytes(count);
+        let protected = |k: &usize| self.chip().map_or(false, |chip| chip.protected(&self.reader.image, place + k));
+        let protected: Vec<usize> = (0..count).filter(protected).collect();
+        if protected.is_empty() || self.rng.chance(25) {
+            return data;
+        }
+        for &k in &protected {
+            data[k] = stored[k];
+        }
+        if self.rng.chance(60) {
+            let other = self.rng.pick(&[protected[0], protected[protected.len() - 1]]);
+            data[other] ^= 1 << self.rng.below(8);
+        }
+        data
     }
 
     /// The bytes that stand in the memory there, 00h past its end.

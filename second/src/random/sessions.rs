@@ -72,7 +72,7 @@ impl Making<'_> {
                 }
             }
             Record::Remove => {
-                self.count.add(format!("{}: {}", line, if before.kind == 0 { "no card" } else { "a card" }))
+                self.count.add(format!("{}: {}", line, if before.slot.kind == 0 { "no card" } else { "a card" }))
             }
             Record::Message(message) => {
                 self.messages += 1;
@@ -87,6 +87,7 @@ impl Making<'_> {
             _ => self.count.add(format!("{}: {}", line, why)),
         }
         self.parameters(&before, &record, &line);
+        self.after_write(before.slot.kind, &record, &line);
         self.stream.parts.push(record);
         self.stream.lines.push(line);
     }
@@ -120,6 +121,18 @@ impl Making<'_> {
             },
             _ => self.befell,
         };
+    }
+
+    /// Counts a command that is done right after a D0 with 65 81; a B0 only where it reads that range.
+    fn after_write(&mut self, kind: u8, record: &Record, line: &str) {
+        let before = (self.stream.parts.last(), self.stream.lines.last());
+        if let (Record::Message(message), (Some(Record::Message(write)), Some(told))) = (record, before) {
+            let written = told.ends_with("6581") && write[0] == 0x6f;
+            let done = line.ends_with("9000") && message[0] == 0x6f;
+            if written && done && (message[11] != 0xb0 || message[12..15] == write[12..15]) {
+                self.count.add(format!("kind {}: 6581, then {:02X}: 9000", kind, message[11]));
+            }
+        }
     }
 
     fn insert(&mut self, kind: u8, image: &[u8], why: &str) {

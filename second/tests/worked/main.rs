@@ -1,6 +1,7 @@
 //! The second program's own tests: answers worked out by hand from the paper.
 
 mod parameters;
+mod protected;
 mod without_code;
 
 use second::case::Case;
@@ -435,9 +436,9 @@ fn protecting() {
     // Bytes 0, 2 and 3 are equal, byte 1 is not and is passed over: bits 1101b go, 1111_0010b stay.
     assert_eq!(host.send("FF D1 00 00 04 A2 14 10 91"), "9000");
     assert_eq!(host.send("FF B2 00 00 04"), "f2ffffff9000");
-    assert_eq!(host.send("FF D0 00 01 01 77"), "9000");
-    assert_eq!(host.send("FF D0 00 01 02 77 77"), "6982");
-    assert_eq!(host.send("FF D0 00 02 01 10"), "6982");
+    assert_eq!(host.send("FF D0 00 01 01 76"), "9000");
+    assert_eq!(host.send("FF D0 00 01 02 77 78"), "6581");
+    assert_eq!(host.send("FF D0 00 02 01 10"), "9000");
     assert_eq!(host.send("FF B0 00 00 04"), "a27710919000");
     // Protecting a protected byte is nothing new. 31 is the last byte that has a bit.
     assert_eq!(host.send("FF D1 00 00 01 A2"), "9000");
@@ -450,7 +451,8 @@ fn protecting() {
     // Byte 3FCh is FCh; its bit is bit 4 of protection byte 127.
     assert_eq!(host.send("FF D1 03 FC 01 FC"), "9000");
     assert_eq!(host.0.image[1024 + 127], 0xef);
-    assert_eq!(host.send("FF D0 03 FC 01 00"), "6982");
+    assert_eq!(host.send("FF D0 03 FC 01 00"), "6581");
+    assert_eq!(host.send("FF D0 03 FC 01 FC"), "9000");
 }
 
 #[test]
@@ -465,13 +467,6 @@ fn the_code_of_a_4428() {
     assert_eq!(host.send("FF 20 00 00 02 AA BB"), "90fe");
     assert_eq!(host.send("FF B0 03 FE 02"), "00009000");
     assert_eq!(host.send("FF 20 00 00 02 01 02"), "90ff");
-    // An image may have the code protected already.
-    let mut image = sle4428(0xff);
-    image[1151] = 0xbf;
-    let mut host = Host::with(20, image);
-    assert_eq!(host.send("FF 20 00 00 02 AA BB"), "90ff");
-    assert_eq!(host.send("FF D0 03 FE 01 00"), "6982");
-    assert_eq!(host.send("FF D0 03 FF 01 00"), "9000");
 }
 
 #[test]

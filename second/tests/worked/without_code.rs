@@ -312,19 +312,18 @@ fn the_last_bytes_of_a_4418_are_plain_memory() {
 
 #[test]
 fn protected_bytes_of_a_4418() {
-    // One of 3FDh to 3FFh is protected: no write that covers it, each that does not.
+    // One of 3FDh to 3FFh is protected: a write that covers it passes over it alone.
     for (bits, protected) in [(0xdf, 0x3fd), (0xbf, 0x3fe), (0x7f, 0x3ff)] {
         for place in 0x3fa..=0x3ff {
             for count in 1..=0x400 - place {
                 let mut host = Host::with(21, sle4418_with(bits));
                 let apdu = [&[0xff, 0xd0, 0x03, place as u8, count as u8], &vec![0x99; count][..]].concat();
+                let covered = (place..place + count).contains(&protected);
+                let word = if covered { "6581" } else { "9000" };
+                assert_eq!(host.send_bytes(&apdu), word, "{:x} {}", place, count);
                 let mut image = sle4418_with(bits);
-                if (place..place + count).contains(&protected) {
-                    assert_eq!(host.send_bytes(&apdu), "6982", "{:x} {}", place, count);
-                } else {
-                    assert_eq!(host.send_bytes(&apdu), "9000", "{:x} {}", place, count);
-                    image[place..place + count].fill(0x99);
-                }
+                image[place..place + count].fill(0x99);
+                image[protected] = sle4418()[protected];
                 assert_eq!(host.0.image, image);
             }
         }
@@ -348,8 +347,9 @@ fn protecting_bytes_of_a_4418() {
     assert_eq!(host.send("FF D1 03 FD 03 C1 00 C3"), "9000");
     assert_eq!(host.0.image, sle4418_with(0x5f));
     assert_eq!(host.send("FF B2 03 F8 01"), "5f9000");
-    assert_eq!(host.send("FF D0 03 FD 01 C1"), "6982");
-    assert_eq!(host.send("FF D0 03 FF 01 00"), "6982");
+    assert_eq!(host.send("FF D0 03 FD 01 C1"), "9000");
+    assert_eq!(host.send("FF D0 03 FD 01 00"), "6581");
+    assert_eq!(host.send("FF D0 03 FF 01 00"), "6581");
     assert_eq!(host.send("FF D0 03 FE 01 55"), "9000");
     // Protecting a protected byte is nothing new, whichever byte is sent.
     assert_eq!(host.send("FF D1 03 FD 01 C1"), "9000");
@@ -359,7 +359,8 @@ fn protecting_bytes_of_a_4418() {
     assert_eq!(host.0.image[1151], 0x5f);
     assert_eq!(host.send("FF D1 03 FE 01 55"), "9000");
     assert_eq!(host.0.image[1151], 0x1f);
-    assert_eq!(host.send("FF D0 03 FE 01 55"), "6982");
+    assert_eq!(host.send("FF D0 03 FE 01 55"), "9000");
+    assert_eq!(host.send("FF D0 03 FE 01 C2"), "6581");
     assert_eq!(host.send("FF B0 03 FC 04"), "fcc155c39000");
     // The card may go out and in as it is, with the bit of 3FDh 0.
     let image = host.0.image.clone();
@@ -377,13 +378,16 @@ fn a_4432_is_written_and_protected() {
     // Bytes 0 and 3 are equal, 1 and 2 are not: bits 1001b go, 1111_0110b stay.
     assert_eq!(host.send("FF D1 00 00 04 A2 00 00 78"), "9000");
     assert_eq!(host.send("FF B2 00 00 04"), "f6ffffff9000");
-    assert_eq!(host.send("FF D0 00 00 01 A2"), "6982");
-    assert_eq!(host.send("FF D0 00 01 03 01 02 03"), "6982");
-    assert_eq!(host.send("FF D0 00 01 02 01 02"), "9000");
+    assert_eq!(host.send("FF D0 00 00 01 A2"), "9000");
+    assert_eq!(host.send("FF D0 00 00 01 A3"), "6581");
+    assert_eq!(host.send("FF D0 00 01 03 01 02 03"), "6581");
     assert_eq!(host.send("FF B0 00 00 05"), "a2010278ff9000");
+    assert_eq!(host.send("FF D0 00 01 02 03 04"), "9000");
+    assert_eq!(host.send("FF B0 00 00 05"), "a2030478ff9000");
     // From 32 on no byte has a bit.
     assert_eq!(host.send("FF D1 00 1F 01 FF"), "9000");
-    assert_eq!(host.send("FF D0 00 1F 02 00 00"), "6982");
+    assert_eq!(host.send("FF D0 00 1F 02 00 01"), "6581");
+    assert_eq!(host.send("FF B0 00 1E 04"), "ffff01ff9000");
     assert_eq!(host.send("FF D0 00 20 02 00 00"), "9000");
     assert_eq!(host.0.slot, Slot { kind: 31, active: true, selected: 6, ..Slot::empty() });
     assert_eq!(host.0.image[256..], bytes("F6 FF FF 7F 00 00 00 00"));
