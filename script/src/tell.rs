@@ -234,7 +234,8 @@ fn told_word(apdu: &[u8], word: &[u8]) -> String {
         (0x69, 0x85) => "no type is selected",
         (0x6b, 0x00) => "wrong place: P1P2, or the range that it begins",
         (0x6a, 0x80) => "wrong value: the type, or the page code",
-        (0x69, 0x82) => "not allowed: a code card is closed, or a byte is protected",
+        (0x69, 0x82) => "not allowed: the card is closed",
+        (0x65, 0x81) => "a protected byte is not the one sent; all unprotected ones are stored",
         _ => "no status word of the paper",
     };
     text.to_string()

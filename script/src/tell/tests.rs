@@ -154,8 +154,11 @@ fn status_words() {
         ("69 85", "no type is selected"),
         ("6B 00", "wrong place: P1P2, or the range that it begins"),
         ("6A 80", "wrong value: the type, or the page code"),
-        ("69 82", "not allowed: a code card is closed, or a byte is protected"),
+        ("69 82", "not allowed: the card is closed"),
+        ("65 81", "a protected byte is not the one sent; all unprotected ones are stored"),
         ("69 83", "no status word of the paper"),
+        ("65 80", "no status word of the paper"),
+        ("69 81", "no status word of the paper"),
     ] {
         assert_eq!(told("word", "FF B0 00 00 01", word), Some(format!("{} {}", word, text)));
     }
@@ -175,6 +178,18 @@ fn status_words() {
     assert_eq!(told("word", codes[0].0, "90 04").as_deref(), Some(closed));
     let closed = "90 00 the card is closed: counter 00, no tries left";
     assert_eq!(told("word", codes[0].0, "90 00").as_deref(), Some(closed));
+}
+
+/// The message has succeeded, whatever became of the bytes.
+#[test]
+fn a_write_over_a_protected_byte() {
+    let parts = answer(&transfer("FF D0 00 10 02 AA BB"), &bytes("80 02000000 00 09 00 00 00 65 81"));
+    let wanted = [
+        ("answer", "80 data block, bSlot 00, bSeq 09"),
+        ("status", "00 success, card active, error 00 none"),
+        ("word", "65 81 a protected byte is not the one sent; all unprotected ones are stored"),
+    ];
+    assert_eq!(parts, wanted.map(|(name, text)| (name, text.to_string())));
 }
 
 #[test]
