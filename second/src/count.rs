@@ -128,7 +128,7 @@ impl Count {
         let (kind, status, error) = (message[0], answer[7], answer[8]);
         let came = message.len() - 10;
         self.add(format!("bStatus {:02X}h", status));
-        // On kind 20 it never is.
+        // A kind 20 with that bit 0 is turned down.
         if before.protected(0x3fd) {
             self.add("kind 21, bit for 3FDh is 0: answered".to_string());
         }
