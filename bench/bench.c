@@ -22,11 +22,11 @@ void _exit(int status);
 typedef int32_t message_call(uint8_t *, size_t, uint8_t *, size_t, const uint8_t *, size_t, uint8_t *, size_t);
 
 enum { I2C_SMALL = 1, I2C_256 = 2, I2C_LARGE = 9, SLE4428 = 20, SLE4418 = 21, SLE4442 = 30, SLE4432 = 31 };
-enum { ROWS = 112, LARGEST = 32768, CALLS = 4, TIMED_CALLS = 500, TIMED_RUNS = 8, MOST_ROUNDS = 999 };
+enum { ROWS = 128, LARGEST = 32768, CALLS = 4, TIMED_CALLS = 500, TIMED_RUNS = 8, MOST_ROUNDS = 999 };
 
 struct row {
     const char *name;
-    uint8_t kind, poke;
+    uint8_t kind, bits, poke;
     uint8_t record[32], message[300];
     size_t record_len, image_len, message_len, answer_len, poke_at;
 };
@@ -70,18 +70,21 @@ static size_t counter_of(uint8_t kind) { return kind == SLE4442 ? 260 : 0x3fd; }
 
 static uint8_t memory_byte(size_t at) { return (uint8_t)(at * 7 + 1); }
 
-// A card with nothing protected and, where it has a code, a full counter and the code 11 22 33.
-static void make_card(uint8_t kind) {
+// A card with these protection bytes, but that an SLE4428's 3FDh is not protected, and, where it has a code, a full counter
+// and the code 11 22 33.
+static void make_card(uint8_t kind, uint8_t bits) {
     for (size_t i = 0; i < LARGEST; i++)
         image[i] = memory_byte(i);
     if (type_of(kind) == 6) {
-        memset(image + 256, 0xff, 4);
+        memset(image + 256, bits, 4);
         memcpy(image + 260, has_code(kind) ? "\x07\x11\x22\x33" : "\0\0\0", 4);
     }
     if (type_of(kind) == 5)
-        memset(image + 1024, 0xff, 128);
-    if (kind == SLE4428)
+        memset(image + 1024, bits, 128);
+    if (kind == SLE4428) {
         memcpy(image + 0x3fd, "\xff\x11\x22", 3);
+        image[1024 + 0x3fd / 8] |= 1 << 0x3fd % 8;
+    }
 }
 
 // ---- the rows
@@ -91,6 +94,7 @@ static struct row *add(const char *name, uint8_t kind, uint8_t type, size_t n) {
     struct row *row = &rows[row_count++];
     row->name = name;
     row->kind = kind;
+    row->bits = 0xff;
     row->record_len = 32;
     row->image_len = image_len_of(kind);
     row->message_len = 10 + n;
@@ -108,6 +112,9 @@ static struct row *add(const char *name, uint8_t kind, uint8_t type, size_t n) {
     row->poke = (uint8_t)(kind == SLE4442 ? 0x07 : kind == SLE4428 ? 0xff : 1);
     return row;
 }
+
+// The place of the protection bit of a byte.
+static size_t bit_place(uint8_t kind, size_t byte) { return (type_of(kind) == 6 ? 256 : 1024) + byte / 8; }
 
 // A command; brings says how many bytes follow P3, which are those that the card has there.
 static struct row *add_command(const char *name, uint8_t kind, uint8_t ins, size_t at, size_t p3, size_t brings) {
@@ -155,7 +162,7 @@ static void add_code(const char *name, uint8_t kind, const char *code, uint8_t c
 
 static void make_rows(void) {
     struct row *row;
-    uint8_t ends[] = { I2C_SMALL, I2C_LARGE }, codes[] = { SLE4442, SLE4428 };
+    uint8_t ends[] = { I2C_SMALL, I2C_LARGE }, codes[] = { SLE4442, SLE4428 }, with_bits[] = { SLE4442, SLE4428, SLE4418 };
 
     add_read("read 1 byte", I2C_SMALL, 0x20, 1);
     add_read("read 1 byte", I2C_LARGE, 0x4120, 1);
@@ -182,6 +189,23 @@ static void make_rows(void) {
     add_write("write 16 bytes", SLE4432, 0x10, 16);
     add_write("write 16 bytes", SLE4418, 0x10, 16);
     add_write("write 255 bytes", SLE4418, 3, 255);
+
+    // What is sent for a protected byte is what it holds, but where every second one is protected: there the first of them
+    // is another, and the answer 65 81.
+    for (size_t i = 0; i < 3; i++) {
+        uint8_t kind = with_bits[i];
+        size_t at = kind == SLE4442 ? 0 : 3;
+        row = add_write("write 255 bytes, one in the middle protected", kind, at, 255);
+        row->poke_at = bit_place(kind, kind == SLE4442 ? 16 : 128);
+        row->poke = 0xfe;
+        row = add_write("write 255 bytes, every second protected", kind, at, 255);
+        row->bits = 0xaa;
+        row->message[15 + at % 2] ^= 1;
+        row = add_write("write 16 bytes, the last protected", kind, 0x10, 16);
+        row->poke_at = bit_place(kind, 0x1f);
+        row->poke = 0x7f;
+        add_write("write 16 bytes, all protected", kind, 0x10, 16)->bits = 0x00;
+    }
 
     for (size_t i = 0; i < 2; i++) {
         uint8_t full = (uint8_t)(codes[i] == SLE4442 ? 0x07 : 0xff);
@@ -219,9 +243,6 @@ static void make_rows(void) {
     add_command("step 5: not this card's", SLE4432, 0x20, 0, 3, 3);
     for (size_t i = 0; i < 2; i++) {
         add_command("step 9: write while closed", codes[i], 0xd0, 0x10, 16, 16);
-        row = add_write("step 10: last of 16 protected", codes[i], 0x10, 16);
-        row->poke_at = (codes[i] == SLE4442 ? 256 : 1024) + 3;
-        row->poke = 0x7f;
     }
 
     for (size_t i = 0; i < 2; i++) {
@@ -281,13 +302,13 @@ static int both_agree(void) {
     static uint8_t seen_image[LARGEST];
     uint8_t seen_record[32], seen_answer[sizeof answer];
     for (size_t i = 0; i < row_count; i++) {
-        make_card(rows[i].kind);
+        make_card(rows[i].kind, rows[i].bits);
         memset(answer, 0x5a, sizeof answer);
         int32_t result = call_once(library, &rows[i]);
         memcpy(seen_record, record, sizeof record);
         memcpy(seen_image, image, sizeof image);
         memcpy(seen_answer, answer, sizeof answer);
-        make_card(rows[i].kind);
+        make_card(rows[i].kind, rows[i].bits);
         memset(answer, 0x5a, sizeof answer);
         if (call_once(plain, &rows[i]) != result || memcmp(seen_record, record, sizeof record) ||
             memcmp(seen_image, image, sizeof image) || memcmp(seen_answer, answer, sizeof answer)) {
@@ -304,7 +325,7 @@ static int both_agree_on(uint8_t in, uint8_t fill, size_t length, uint8_t kind) 
     memset(ours, fill, sizeof ours);
     ours[0] = in;
     memcpy(theirs, ours, sizeof ours);
-    make_card(kind);
+    make_card(kind, 0xff);
     int same = card_reader_insert(ours, length, kind, image, image_len_of(kind)) ==
                plain_insert(theirs, length, kind, image, image_len_of(kind));
     same &= !memcmp(ours, theirs, sizeof ours);
@@ -349,7 +370,7 @@ static void count(unsigned rounds) {
     for (size_t i = 0; i < row_count; i++) {
         const struct row *row = &rows[i];
         printf("%03u\t%s\t%s\t%u\n", (unsigned)i, row->name, card_of(row->kind), (unsigned)CALLS);
-        make_card(row->kind);
+        make_card(row->kind, row->bits);
         for (unsigned round = 0; round < rounds; round++) {
             marked(i, 'e', empty);
             marked(i, 'l', library);
@@ -394,7 +415,7 @@ static double region_steps(int child) {
 static void make_regions(void) {
     ptrace(TRACE_ME, 0, 0L, 0L);
     for (size_t i = 0; i < row_count; i++) {
-        make_card(rows[i].kind);
+        make_card(rows[i].kind, rows[i].bits);
         region(empty, &rows[i]);
         region(library, &rows[i]);
         region(plain, &rows[i]);
@@ -457,7 +478,7 @@ static void time_rows(unsigned rounds) {
     static double ours[MOST_ROUNDS], theirs[MOST_ROUNDS], ratios[MOST_ROUNDS];
     for (size_t i = 0; i < row_count; i++) {
         const struct row *row = &rows[i];
-        make_card(row->kind);
+        make_card(row->kind, row->bits);
         timed(library, row);
         timed(plain, row);
         for (unsigned round = 0; round < rounds; round++) {

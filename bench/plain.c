@@ -19,7 +19,8 @@ enum {
     NOTHING_SELECTED = 0x6985,
     WRONG_PLACE = 0x6b00,
     WRONG_VALUE = 0x6a80,
-    NOT_ALLOWED = 0x6982
+    NOT_ALLOWED = 0x6982,
+    NOT_AS_SENT = 0x6581
 };
 
 // The commands in a row, so that a chip's commands are a mask; 0 is none. A4 is any chip's, and B0 to
@@ -137,7 +138,7 @@ static inline int is_locked(const uint8_t *record, const struct chip *chip) { re
 #define UPTO(last) (0xffu >> (7 - (last)))
 
 // Whether no byte of first..end-1 is protected; they are one at least.
-static int none_protected(const struct chip *chip, const uint8_t *image, size_t first, size_t end) {
+static inline int none_protected(const struct chip *chip, const uint8_t *image, size_t first, size_t end) {
     const uint8_t *bits = image + chip->protection;
     if (end > chip->protectable)
         end = chip->protectable;
@@ -149,6 +150,36 @@ static int none_protected(const struct chip *chip, const uint8_t *image, size_t 
         if (~bits[i] & mask)
             return 0;
     return !(~bits[i] & mask & UPTO((end - 1) % 8));
+}
+
+// D0 on a card with protection bits: the bytes at..end-1 but for those that are protected, most often none. Whether each
+// of them then is the one sent.
+static int store_unprotected(const struct chip *chip, uint8_t *restrict image, size_t at, size_t end,
+                             const uint8_t *restrict data) {
+    if (none_protected(chip, image, at, end)) {
+        memcpy(image + at, data, end - at);
+        return 1;
+    }
+    const uint8_t *bits = image + chip->protection;
+    size_t last = end < chip->protectable ? end : chip->protectable;
+    int equal = 1;
+    while (at < last) {
+        size_t stop = (at | 7) + 1 < last ? (at | 7) + 1 : last;
+        unsigned free = bits[at / 8] >> at % 8;
+        if (free == 0xff && stop - at == 8) {
+            memcpy(image + at, data, 8);
+            at += 8;
+            data += 8;
+            continue;
+        }
+        for (; at < stop; at++, data++, free >>= 1)
+            if (free & 1)
+                image[at] = *data;
+            else
+                equal &= image[at] == *data;
+    }
+    memcpy(image + at, data, end - at);
+    return equal;
 }
 
 // D0 on I2C. Up to the chip's page the cuts change nothing: the range holds the data.
@@ -282,10 +313,9 @@ static inline unsigned command(uint8_t *restrict record, const struct chip *chip
         }
         if (at <= chip->counter && end > chip->counter)
             return WRONG_PLACE;
-        if (is_locked(record, chip) || !none_protected(chip, image, at, end))
+        if (is_locked(record, chip))
             return NOT_ALLOWED;
-        memcpy(image + at, data, p3);
-        return DONE;
+        return store_unprotected(chip, image, at, end, data) ? DONE : NOT_AS_SENT;
     case D1:
         if (p3 == 0)
             return WRONG_LENGTH;

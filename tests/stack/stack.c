@@ -152,9 +152,8 @@ static void make_card(uint8_t *to, const struct kind *kind, uint8_t counter, uin
 
 /* ---- situations: on which kind of card, what call, and what came of it */
 
-/* What came: a status word, of which 69 82 is told apart by whether the card was open and 90xx stands for a code
- * command's 90 with tries left; or one of these. */
-enum { DONE = 0, OPEN = 0x10000, TRIES = 0x90ff, FAILED = 0x20000, REFUSED = 0x30000, NO_RESULT = 0x40000 };
+/* What came: a status word, of which 90xx stands for a code command's 90 with tries left; or one of these. */
+enum { DONE = 0, TRIES = 0x90ff, FAILED = 0x20000, REFUSED = 0x30000, NO_RESULT = 0x40000 };
 
 enum { IS_NONE = 1 << NONE, IS_I2C = 1 << I2C, IS_42 = 1 << CODE_42 };
 enum { IS_BITS = 1 << BITS_18 | 1 << BITS_32, IS_CODE = 1 << CODE_28 | IS_42 };
@@ -199,8 +198,7 @@ static const struct { unsigned cards, subjects, outcome; } rules[] = {
     { IS_I2C, OF(C01), 0x6a80 },
     { IS_CODE, OF(D0) | OF(D1), 0x6982 },
     { IS_42, OF(D2), 0x6982 },
-    { IS_CODE, OF(D0), OPEN | 0x6982 },
-    { IS_BITS, OF(D0), 0x6982 },
+    { IS_BITS | IS_CODE, OF(D0), 0x6581 },
     { IS_CARD, ITS_OWN, 0x9000 },
     { IS_CODE, OF(C20), TRIES },
 };
@@ -226,7 +224,7 @@ static void print_outcome(unsigned outcome)
 {
     unsigned code = outcome & 0xffff;
     if (outcome >= NO_RESULT)
-        puts("a number that is neither");
+        puts("what no rule gives");
     else if (outcome >= REFUSED)
         printf("refused, %u\n", code);
     else if (outcome >= FAILED)
@@ -236,7 +234,7 @@ static void print_outcome(unsigned outcome)
     else if (code == TRIES)
         puts("90 and tries left");
     else
-        printf("%02X %02X%s\n", code >> 8, code & 0xff, outcome & OPEN ? ", open" : "");
+        printf("%02X %02X\n", code >> 8, code & 0xff);
 }
 
 /* Marks a situation. */
@@ -302,7 +300,8 @@ static unsigned outcome_of(size_t length, int32_t result, size_t *subject)
     *subject = MESSAGE;
     if (result < 0)
         return REFUSED | (unsigned)-result;
-    if (result < 10 || result > CARD_READER_LONGEST)
+    /* A card without a code that is said to be open gets no answer. */
+    if (result < 10 || result > CARD_READER_LONGEST || (kept_record[4] && kinds[kind_in].family < CODE_28))
         return NO_RESULT;
     *subject = type < sizeof types ? T61 + type : OTHER;
     if (answer[7] & 0x40)
@@ -312,8 +311,9 @@ static unsigned outcome_of(size_t length, int32_t result, size_t *subject)
     if (length >= 15 && message[10] == 0xff && command < sizeof commands)
         *subject = A4 + command;
     word = (unsigned)answer[result - 2] << 8 | answer[result - 1];
+    /* An open card refuses nothing by 69 82. */
     if (word == 0x6982 && kept_record[4])
-        return OPEN | word;
+        return NO_RESULT;
     return word > 0x9000 && word >> 8 == 0x90 ? TRIES : word;
 }
 
@@ -518,7 +518,7 @@ static void send_all(int active, int selected, uint8_t page, int open, const uin
 }
 
 /* The states of the slot with the card that is kept: inactive, no type, selected with each page, open. Of a card without a
- * code that is no state, and every message is turned down: were one answered, a protected byte would tell. */
+ * code that is no state, and every message is turned down. */
 static void on_each_state(int open_too)
 {
     unsigned page;
