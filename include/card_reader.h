@@ -74,7 +74,8 @@ extern "C" {
 
 /* One host message (CCID Bulk-OUT) to the card that is in.
  *   record   the slot; afterwards the next slot
- *   image    the card's memory; afterwards what the card holds
+ *   image    the card's memory; afterwards what the card holds. It changes only under a 6Fh whose answer ends in 90 xx or
+ *            65 81, the latter of a write over a protected byte that is not the one sent: the other bytes are stored
  *   message  the whole message, header and data
  *   answer   afterwards the answer (CCID Bulk-IN) from its first byte on; bytes past the answer keep their values
  * Types: 62h (power on) and 6Fh (transfer), answered by 80h; 63h (power off) and 65h (slot status), by 81h; 61h, 6Ch and

@@ -1,6 +1,6 @@
 -- A D0 on a card with protection bits stores every unprotected byte of its range and leaves every other byte of the image; it is answered 90 00
 -- exactly where the range then reads back as the data, else 65 81. On a card without bits it is answered 90 00.
-use Prim.Native.Nat.{ℕ, zero, suc, _+_, _-_, _≤_, _<_}
+use Prim.Native.Nat.{ℕ, suc, _+_, _-_, _≤_, _<_}
 use mathlib.Core.Path.{_≡_, refl, sym, ap, ap₂, _∙_, subst, subst⁻¹}
 use mathlib.Core.Bool.{Bool, true, false}
 use mathlib.Core.List.{List, [], _∷_}
@@ -12,7 +12,7 @@ use borrow.Author.Tests.{eq-eqb, ne-eqb}
 use Rattle.words.specs.Choice.{_⇒_⁏_, _and_, _means_, _is_}
 use Rattle.words.specs.Bytes.{byte, over}
 use Rattle.words.specs.Bounds.{leastRoom}
-use Rattle.words.proofs.Choices.{first, rest, either, or-taken, or-passed}
+use Rattle.words.proofs.Choices.{first, or-taken, or-passed}
 use Rattle.records.specs.declared.Mark.{Mark}
 use Rattle.chips.specs.declared.Chip.{Chip}
 use Rattle.chips.specs.declared.Facts.{Facts}
@@ -25,10 +25,9 @@ use Rattle.record.specs.Raw.{rawOf}
 use Rattle.stores.specs.Stores.{storing, endsEqual}
 use Rattle.stores.proofs.StoreLaws.{ends-back, length-storing, byte-passed, byte-sent, byte-storing}
 use Rattle.steps.specs.declared.Order.{Order}
-use Rattle.steps.specs.Steps.{order, body}
 use Rattle.steps.specs.Fits.{Fit}
 use Rattle.steps.proofs.Decisions.{order-fits}
-use Rattle.orders.specs.Orders.{done, unequal, reported, written, writtenWord, saidBy, imageBy, slotBy, performed}
+use Rattle.orders.specs.Orders.{done, unequal, reported, writtenWord, saidBy, imageBy, slotBy, performed}
 use Rattle.orders.proofs.ImageKept.{written-stores}
 use Rattle.faults.specs.declared.Fault.{Fault}
 use Rattle.faults.specs.Faults.{Transfer, apdu}

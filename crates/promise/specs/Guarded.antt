@@ -52,7 +52,7 @@ nineBytes = 0x62 ∷ replicate 8 0
 
 unfoldable pub guardVisits : List Guarded
 guardVisits =
-    -- SLE4442: opened, D1 carries the value of byte 1, and D0 is 69 82 from then on
+    -- SLE4442: opened, D1 carries the value of byte 1, and D0 passes over it from then on
     record {
       chip = Sle4442;
       image = image4442 0x07;

@@ -42,7 +42,7 @@ transfers ResetParameters = false
 transfers Transfer = true
 transfers Unsupported = false
 
--- "a code reached the card exactly when steps 1 to 10 let its command 20 through"
+-- "a code reached the card exactly when steps 1 to 10 let its command 20 through"; 02: "step 10 goes"
 unfoldable pub reached : Facts → Slot → List ℕ → Sent → Bool
 reached f s image m =
     heard s image m

@@ -198,7 +198,7 @@ order f s d =
     ⁏ byte d 0 isnt 0xFF ⇒ Order.Refuse Status.Class
     ⁏ steps f s (length d) (place d) (p3 d) (byte d 5) (insOf (byte d 1))
 
--- "steps 1 to 10 let its command 20 through"
+-- "steps 1 to 10 let its command 20 through"; 02: "step 10 goes"
 abbrev pub presents : Order → Bool
 presents (Order.Refuse status) = false
 presents Order.Select = false

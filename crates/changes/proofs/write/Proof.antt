@@ -1,8 +1,7 @@
 -- `write` meets its contract: the bytes are written, and the word is said that the report calls for.
 use borrow.Author.Needs.{needs}
 use mathlib.Core.Path.{_≡_, refl, sym, ap, _∙_}
-use mathlib.Core.Bool.{Bool}
-use mathlib.Core.List.{List, [], _∷_}
+use mathlib.Core.List.{List}
 use native.Mathlib.Omega.{arith}
 use Prim.Native.Nat.{ℕ}
 use lib.ListN.{length}
@@ -17,9 +16,16 @@ use Rattle.changes.proofs.write.Tie as tie
 write-bytes-requires : tie.Need-write-bytes-requires
 write-bytes-requires c κs = search needs
 
--- the report is the rule's, of the image as the rule has it
+-- the image as the rule has it, and the word that the rule says of it
+abbrev left : tie.After-write-bytes → List ℕ
+left w = let a = w .before .before .before .before .before .args in written (facts (a .chip)) (a .slot .page) (a .image .now) (a .at) (a .«data» .now)
+
+abbrev word : tie.After-write-bytes → List ℕ
+word w = let a = w .before .before .before .before .before .args in writtenWord (facts (a .chip)) (left w) (a .at) (a .«data» .now)
+
+-- the report is the rule's
 report : (w : tie.After-write-bytes) → let a = w .before .before .before .before .before .args in
-    reported (facts (a .chip)) (written (facts (a .chip)) (a .slot .page) (a .image .now) (a .at) (a .«data» .now)) (a .at) (a .«data» .now) ≡ w .write-bytes .result
+    reported (facts (a .chip)) (left w) (a .at) (a .«data» .now) ≡ w .write-bytes .result
 report w =
     let a = w .before .before .before .before .before .args in
     sym (w .write-bytes .ensures .1 ∙ ap (λ (l : List ℕ). reported (facts (a .chip)) l (a .at) (a .«data» .now)) (w .write-bytes .ensures .0))
@@ -40,13 +46,12 @@ returns c =
     let on = at-put .before .before in
     let w = on .before .before .before in
     let a = w .before .before .before .before .before .args in
-    let word : done ≡ writtenWord (facts (a .chip)) (written (facts (a .chip)) (a .slot .page) (a .image .now) (a .at) (a .«data» .now)) (a .at) (a .«data» .now) =
-    taken _ (report w ∙ on .if1 .taken) in
+    let said : done ≡ word w = taken _ (report w ∙ on .if1 .taken) in
     record {
-      len = at-put .put-two .ensures .0 ∙ ap length word;
+      len = at-put .put-two .ensures .0 ∙ ap length said;
       slot = refl;
       image = w .write-bytes .ensures .0;
-      out = at-put .put-two .ensures .1 ∙ over-pair (a .out .now) 0x90 0x00 (omega arith) ∙ ap (λ (l : List ℕ). over l (a .out .now)) word;
+      out = at-put .put-two .ensures .1 ∙ over-pair (a .out .now) 0x90 0x00 (omega arith) ∙ ap (λ (l : List ℕ). over l (a .out .now)) said;
     }
 
 put-two-requires-2 : tie.Need-put-two-requires-2
@@ -65,13 +70,12 @@ returns-2 c =
     let on = at-put .before .before in
     let w = on .before .before .before in
     let a = w .before .before .before .before .before .args in
-    let word : unequal ≡ writtenWord (facts (a .chip)) (written (facts (a .chip)) (a .slot .page) (a .image .now) (a .at) (a .«data» .now)) (a .at) (a .«data» .now) =
-    passed _ (report w ∙ on .if1 .left) refl in
+    let said : unequal ≡ word w = passed _ (report w ∙ on .if1 .left) refl in
     record {
-      len = at-put .put-two2 .ensures .0 ∙ ap length word;
+      len = at-put .put-two2 .ensures .0 ∙ ap length said;
       slot = refl;
       image = w .write-bytes .ensures .0;
-      out = at-put .put-two2 .ensures .1 ∙ over-pair (a .out .now) 0x65 0x81 (omega arith) ∙ ap (λ (l : List ℕ). over l (a .out .now)) word;
+      out = at-put .put-two2 .ensures .1 ∙ over-pair (a .out .now) 0x65 0x81 (omega arith) ∙ ap (λ (l : List ℕ). over l (a .out .now)) said;
     }
 
 pub write-spec : {M : Type 1} → statement M

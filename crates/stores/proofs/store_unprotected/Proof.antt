@@ -2,7 +2,7 @@
 -- of the range gives the report.
 use borrow.Author.Needs.{needs}
 use mathlib.Core.Path.{_≡_, refl, sym, ap, _∙_}
-use mathlib.Core.Bool.{Bool, true, false}
+use mathlib.Core.Bool.{Bool}
 use mathlib.Core.List.{List}
 use mathlib.Core.Logic.{⊎-elim}
 use native.Mathlib.Omega.{arith}
@@ -14,7 +14,7 @@ use borrow.Author.Tests.{eq-eqb, ne-eqb}
 use Rattle.words.specs.Choice.{_and_, _is_}
 use Rattle.words.specs.Bytes.{byte}
 use Rattle.words.proofs.Choices.{and-end, and-holds, and-fails, and-last}
-use Rattle.words.proofs.Lists.{tail-is, closer}
+use Rattle.words.proofs.Lists.{tail-is}
 use Rattle.bits.specs.Bits.{firstProtected}
 use Rattle.bits.specs.declared.Place.the-variants.{At, Nowhere}
 use Rattle.stores.specs.Stores.{storing, endsEqual}
