@@ -150,7 +150,7 @@ bitted chip c = record {
   past = λ h. leb-true _ _ (means-true _ _ (each-of hasBits (λ (f : Facts). f .coded and f .selects is 0x06 means leb (f .covered) (f .code)) refl chip (lt-ltb _ _ c)) h);
 }
 
--- a card with pages is none, and one without them is one
+-- a card with pages has no protection bits, and one without pages has
 pub pages-bare : (chip : Chip) → 0 < facts chip .page → facts chip .covered ≡ 0
 unfolding allOf _and_ _means_
 pages-bare chip h = eqb-true _ _ (each-of (λ (f : Facts). ltb 0 (f .page)) (λ (f : Facts). f .covered is 0) refl chip (lt-ltb _ _ h))

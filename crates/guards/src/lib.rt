@@ -37,7 +37,7 @@ fn write_place(chip: Chip, at: usize, p: usize) -> bool
     chip.facts().counter < at
 }
 
-// D0.
+// D0. What is protected is not asked here: the storing passes over it.
 pub fn write_order(chip: Chip, slot: Slot, n: usize, at: usize, p: usize) -> Order
     requires { ⌜ (at < addresses) × (p < 256) ⌝ }
     ensures { λ r. ⌜ ((v : ℕ) → r ≡ steps (facts chip) slot n at p v Write) ⌝ }
