@@ -4,8 +4,9 @@
 //   bench count ROUNDS   calls between marks on standard error, for an emulator that logs instructions there
 //   bench steps          the instructions of a call, counted by stepping through them one by one
 //
-// A row is a state and a message. Before a call the record and one byte of the image are put back, so
-// that every call does the same. The same loop around a function that does nothing is taken off.
+// A row is a state and a message, or a card that is put in. Before a call the record and what the call
+// changes of the image are put back, so that every call does the same. The same loop around a function
+// that does nothing is taken off.
 #include "card_reader.h"
 #include "plain.h"
 
@@ -20,15 +21,19 @@ long ptrace(int request, ...);
 void _exit(int status);
 
 typedef int32_t message_call(uint8_t *, size_t, uint8_t *, size_t, const uint8_t *, size_t, uint8_t *, size_t);
+typedef int32_t insert_call(uint8_t *, size_t, uint8_t, const uint8_t *, size_t);
 
 enum { I2C_SMALL = 1, I2C_256 = 2, I2C_LARGE = 9, SLE4428 = 20, SLE4418 = 21, SLE4442 = 30, SLE4432 = 31 };
-enum { ROWS = 128, LARGEST = 32768, CALLS = 4, TIMED_CALLS = 500, TIMED_RUNS = 8, MOST_ROUNDS = 999 };
+enum { ROWS = 160, LARGEST = 32768, CALLS = 4, TIMED_CALLS = 500, TIMED_RUNS = 8, MOST_ROUNDS = 999 };
 
+// The card has `bits` in each protection byte, and before each call `poke` in each of the bytes from `poke_at` on. An
+// insertion has the kind in the place of the message's type.
 struct row {
     const char *name;
     uint8_t kind, bits, poke;
+    int inserts;
     uint8_t record[32], message[300];
-    size_t record_len, image_len, message_len, answer_len, poke_at;
+    size_t record_len, image_len, message_len, answer_len, poke_at, poke_len;
 };
 
 static struct row rows[ROWS];
@@ -87,6 +92,22 @@ static void make_card(uint8_t kind, uint8_t bits) {
     }
 }
 
+static unsigned ones(uint8_t byte) {
+    unsigned n = 0;
+    for (; byte; byte = (uint8_t)(byte >> 1))
+        n += byte & 1;
+    return n;
+}
+
+// How many bytes of the card that was made are protected, bit by bit.
+static unsigned protected_bytes(uint8_t kind) {
+    size_t first = type_of(kind) == 6 ? 256 : 1024, last = first + (type_of(kind) == 6 ? 4 : 128);
+    unsigned n = 0;
+    for (size_t i = first; kind >= SLE4428 && i < last; i++)
+        n += 8 - ones(image[i]);
+    return n;
+}
+
 // ---- the rows
 
 // A row on a card whose type is selected, with a message of the type and 10 + n bytes.
@@ -110,7 +131,18 @@ static struct row *add(const char *name, uint8_t kind, uint8_t type, size_t n) {
     row->message[6] = 7;
     row->poke_at = has_code(kind) ? counter_of(kind) : 0;
     row->poke = (uint8_t)(kind == SLE4442 ? 0x07 : kind == SLE4428 ? 0xff : 1);
+    row->poke_len = 1;
     return row;
+}
+
+// The record gets the counts of its card. What stands there before is by how much the row has them wrong.
+static void store_counts(struct row *row) {
+    make_card(row->kind, row->bits);
+    memset(image + row->poke_at, row->poke, row->poke_len);
+    unsigned count = protected_bytes(row->kind) + row->record[14];
+    row->record[13] = (uint8_t)(row->record[13] + (has_code(row->kind) ? ones(image[counter_of(row->kind)]) : 0));
+    row->record[14] = (uint8_t)count;
+    row->record[15] = (uint8_t)(count >> 8);
 }
 
 // The place of the protection bit of a byte.
@@ -153,6 +185,24 @@ static struct row *add_write(const char *name, uint8_t kind, size_t at, size_t p
     return has_code(kind) ? open_card(row) : row;
 }
 
+// A D1 of the card's own bytes. With bits of FFh none of them is protected before the call, with 00h all are.
+static void add_protect(const char *name, uint8_t kind, size_t at, size_t p3, uint8_t bits) {
+    struct row *row = add_command(name, kind, 0xd1, at, p3, p3);
+    if (has_code(kind))
+        open_card(row);
+    row->bits = bits;
+    row->poke_at = bit_place(kind, at);
+    row->poke = bits;
+    row->poke_len = bit_place(kind, at + p3 - 1) - row->poke_at + 1;
+}
+
+// The card of that kind is put into an empty slot.
+static void add_insertion(uint8_t kind) {
+    struct row *row = add("insertion", kind, kind, 0);
+    row->inserts = 1;
+    memset(row->record, 0, 3);
+}
+
 static void add_code(const char *name, uint8_t kind, const char *code, uint8_t counter) {
     size_t length = kind == SLE4442 ? 3 : 2;
     struct row *row = add_command(name, kind, 0x20, 0, length, length);
@@ -163,6 +213,7 @@ static void add_code(const char *name, uint8_t kind, const char *code, uint8_t c
 static void make_rows(void) {
     struct row *row;
     uint8_t ends[] = { I2C_SMALL, I2C_LARGE }, codes[] = { SLE4442, SLE4428 }, with_bits[] = { SLE4442, SLE4428, SLE4418 };
+    uint8_t protecting[] = { SLE4442, SLE4428, SLE4418, SLE4432 };
 
     add_read("read 1 byte", I2C_SMALL, 0x20, 1);
     add_read("read 1 byte", I2C_LARGE, 0x4120, 1);
@@ -219,9 +270,17 @@ static void make_rows(void) {
     add_command("protection bits of 256 bytes", SLE4428, 0xb2, 0x40, 32, 0);
     add_command("protection bits of 256 bytes", SLE4418, 0xb2, 0x40, 32, 0);
     add_command("protection bits of 256 bytes from 43h", SLE4428, 0xb2, 0x43, 32, 0);
-    open_card(add_command("protect 32 bytes", SLE4442, 0xd1, 0, 32, 32));
-    open_card(add_command("protect 32 bytes", SLE4428, 0xd1, 0x40, 32, 32));
-    add_command("protect 32 bytes", SLE4418, 0xd1, 0x3e0, 32, 32);
+    for (size_t i = 0; i < 4; i++) {
+        uint8_t kind = protecting[i];
+        size_t at = type_of(kind) == 6 ? 0 : kind == SLE4428 ? 0x40 : 0x3e0;
+        add_protect("protect 16 bytes", kind, at, 16, 0xff);
+        add_protect("protect 32 bytes", kind, at, 32, 0xff);
+        add_protect("protect 32 bytes, all protected already", kind, at, 32, 0x00);
+    }
+    add_protect("protect 255 bytes", SLE4428, 3, 255, 0xff);
+    add_protect("protect 255 bytes", SLE4418, 3, 255, 0xff);
+    add_protect("protect 255 bytes, all protected already", SLE4428, 3, 255, 0x00);
+    add_protect("protect 255 bytes, all protected already", SLE4418, 3, 255, 0x00);
 
     for (size_t i = 0; i < 2; i++) {
         add_command("refused, 1: short buffer", ends[i], 0xb0, 0, 16, 0)->answer_len--;
@@ -240,6 +299,11 @@ static void make_rows(void) {
         add_command("step 7: past the memory", ends[i], 0xb0, image_len_of(ends[i]) - 15, 16, 0);
     }
     add("refused, 3: last byte of the image", SLE4432, 0x65, 0)->poke_at = 263;
+    for (size_t i = 0; i < 2; i++)
+        add("refused, 4: tries left", codes[i], 0x65, 0)->record[13] = 1;
+    for (size_t i = 0; i < 4; i++)
+        add("refused, 4: number of protected bytes", protecting[i], 0x65, 0)->record[14] = 1;
+    add("refused, 4: number of protected bytes", I2C_SMALL, 0x65, 0)->record[14] = 1;
     add_command("step 5: not this card's", SLE4432, 0x20, 0, 3, 3);
     for (size_t i = 0; i < 2; i++) {
         add_command("step 9: write while closed", codes[i], 0xd0, 0x10, 16, 16);
@@ -260,10 +324,16 @@ static void make_rows(void) {
         add("power off", ends[i], 0x63, 0);
         add("slot status", ends[i], 0x65, 0);
     }
-    add("slot status", SLE4432, 0x65, 0);
+    for (size_t i = 0; i < 4; i++)
+        add("slot status", protecting[i], 0x65, 0);
+    add("slot status, every second protected", SLE4428, 0x65, 0)->bits = 0xaa;
     row = add("slot status", 0, 0x65, 0);
     row->image_len = 0;
     memset(row->record, 0, 3);
+    add_insertion(I2C_SMALL);
+    add_insertion(I2C_LARGE);
+    for (size_t i = 0; i < 4; i++)
+        add_insertion(protecting[i]);
 
     for (size_t i = 0; i < 2; i++) {
         add("get parameters, T=0", ends[i], 0x6c, 0);
@@ -273,13 +343,17 @@ static void make_rows(void) {
         store_set(add("reset parameters", ends[i], 0x6d, 0), t1_set);
         store_set(add_command("read 16 bytes, T=1 stored", ends[i], 0xb0, 0x20, 16, 0), t1_set);
     }
+
+    for (size_t i = 0; i < row_count; i++)
+        if (!rows[i].inserts)
+            store_counts(&rows[i]);
 }
 
 // ---- calls
 
 __attribute__((always_inline)) static inline int32_t call_once(message_call *call, const struct row *row) {
     memcpy(record, row->record, sizeof record);
-    image[row->poke_at] = row->poke;
+    memset(image + row->poke_at, row->poke, row->poke_len);
     return call(record, row->record_len, image, row->image_len, row->message, row->message_len, answer, row->answer_len);
 }
 
@@ -294,23 +368,56 @@ __attribute__((noinline)) static int32_t nothing(uint8_t *r, size_t rl, uint8_t 
     return 0;
 }
 
-// Read anew at each use, so that the three loops differ in nothing but the call.
-static message_call *volatile library = card_reader_message, *volatile plain = plain_message, *volatile empty = nothing;
+__attribute__((noinline)) static int32_t nothing_in(uint8_t *r, size_t rl, uint8_t kind, const uint8_t *i, size_t il) {
+    (void)r, (void)rl, (void)kind, (void)i, (void)il;
+    return 0;
+}
 
-// Whether both readers give the same result, record, image and answer buffer in every row.
+// An insertion, called as a message is. Its function is read anew, as those below are.
+static insert_call *volatile insertions[] = { nothing_in, card_reader_insert, plain_insert };
+#define INSERTS(name, which)                                                                                            \
+    __attribute__((noinline)) static int32_t name(uint8_t *r, size_t rl, uint8_t *i, size_t il, const uint8_t *m,       \
+                                                  size_t ml, uint8_t *a, size_t al) {                                   \
+        (void)ml, (void)a, (void)al;                                                                                    \
+        return insertions[which](r, rl, m[0], i, il);                                                                   \
+    }
+enum { EMPTY, LIBRARY, PLAIN };
+INSERTS(insert_nothing, EMPTY)
+INSERTS(insert_library, LIBRARY)
+INSERTS(insert_plain, PLAIN)
+
+// Read anew at each use, so that the three loops differ in nothing but the call.
+static message_call *volatile messages[] = { nothing, card_reader_message, plain_message };
+static message_call *volatile inserting[] = { insert_nothing, insert_library, insert_plain };
+
+static message_call *call_of(const struct row *row, int which) { return (row->inserts ? inserting : messages)[which]; }
+
+// Whether a row came to what its name says: `refused, N: ..` to that refusal, any other to an answer or a card that is in.
+static int is_as_named(const char *name, int32_t result) {
+    const char *refused = "refused, ";
+    for (; *refused && *refused == *name; refused++)
+        name++;
+    return *refused ? result >= 0 : result == '0' - *name;
+}
+
+// Whether both readers give the same result, record, image and answer buffer in every row, and one that its name says.
 static int both_agree(void) {
     static uint8_t seen_image[LARGEST];
     uint8_t seen_record[32], seen_answer[sizeof answer];
     for (size_t i = 0; i < row_count; i++) {
         make_card(rows[i].kind, rows[i].bits);
         memset(answer, 0x5a, sizeof answer);
-        int32_t result = call_once(library, &rows[i]);
+        int32_t result = call_once(call_of(&rows[i], LIBRARY), &rows[i]);
+        if (!is_as_named(rows[i].name, result)) {
+            dprintf(2, "bench: the library returns %d: %s, %s\n", (int)result, rows[i].name, card_of(rows[i].kind));
+            return 0;
+        }
         memcpy(seen_record, record, sizeof record);
         memcpy(seen_image, image, sizeof image);
         memcpy(seen_answer, answer, sizeof answer);
         make_card(rows[i].kind, rows[i].bits);
         memset(answer, 0x5a, sizeof answer);
-        if (call_once(plain, &rows[i]) != result || memcmp(seen_record, record, sizeof record) ||
+        if (call_once(call_of(&rows[i], PLAIN), &rows[i]) != result || memcmp(seen_record, record, sizeof record) ||
             memcmp(seen_image, image, sizeof image) || memcmp(seen_answer, answer, sizeof answer)) {
             dprintf(2, "bench: the readers differ: %s, %s\n", rows[i].name, card_of(rows[i].kind));
             return 0;
@@ -325,7 +432,7 @@ static int both_agree_on(uint8_t in, uint8_t fill, size_t length, uint8_t kind) 
     memset(ours, fill, sizeof ours);
     ours[0] = in;
     memcpy(theirs, ours, sizeof ours);
-    make_card(kind, 0xff);
+    make_card(kind, fill);
     int same = card_reader_insert(ours, length, kind, image, image_len_of(kind)) ==
                plain_insert(theirs, length, kind, image, image_len_of(kind));
     same &= !memcmp(ours, theirs, sizeof ours);
@@ -335,7 +442,7 @@ static int both_agree_on(uint8_t in, uint8_t fill, size_t length, uint8_t kind) 
     return same && !memcmp(ours, theirs, sizeof ours);
 }
 
-// The same of cards that go in and out, over records whatever is in them.
+// The same of cards that go in and out, over records whatever is in them, with more and fewer bytes protected.
 static int both_agree_on_cards(void) {
     static const uint8_t kinds[] = { I2C_SMALL, I2C_LARGE, SLE4428, SLE4418, SLE4442, SLE4432 };
     for (size_t i = 0; i < sizeof kinds; i++)
@@ -372,10 +479,10 @@ static void count(unsigned rounds) {
         printf("%03u\t%s\t%s\t%u\n", (unsigned)i, row->name, card_of(row->kind), (unsigned)CALLS);
         make_card(row->kind, row->bits);
         for (unsigned round = 0; round < rounds; round++) {
-            marked(i, 'e', empty);
-            marked(i, 'l', library);
-            marked(i, 'c', plain);
-            marked(i, 'x', empty);
+            marked(i, 'e', call_of(row, EMPTY));
+            marked(i, 'l', call_of(row, LIBRARY));
+            marked(i, 'c', call_of(row, PLAIN));
+            marked(i, 'x', call_of(row, EMPTY));
         }
     }
 }
@@ -416,9 +523,9 @@ static void make_regions(void) {
     ptrace(TRACE_ME, 0, 0L, 0L);
     for (size_t i = 0; i < row_count; i++) {
         make_card(rows[i].kind, rows[i].bits);
-        region(empty, &rows[i]);
-        region(library, &rows[i]);
-        region(plain, &rows[i]);
+        region(call_of(&rows[i], EMPTY), &rows[i]);
+        region(call_of(&rows[i], LIBRARY), &rows[i]);
+        region(call_of(&rows[i], PLAIN), &rows[i]);
     }
     _exit(0);
 }
@@ -479,6 +586,7 @@ static void time_rows(unsigned rounds) {
     for (size_t i = 0; i < row_count; i++) {
         const struct row *row = &rows[i];
         make_card(row->kind, row->bits);
+        message_call *empty = call_of(row, EMPTY), *library = call_of(row, LIBRARY), *plain = call_of(row, PLAIN);
         timed(library, row);
         timed(plain, row);
         for (unsigned round = 0; round < rounds; round++) {

@@ -5,7 +5,7 @@
 #include <string.h>
 
 enum { RECORD = 32, HEADER = 10, ANSWER_BUFFER = 271, LONGEST_DATA = 261 };
-enum { KIND = 0, ACTIVE = 1, SELECTED = 2, PAGE = 3, OPEN = 4, PROTOCOL = 5, SET = 6 };
+enum { KIND = 0, ACTIVE = 1, SELECTED = 2, PAGE = 3, OPEN = 4, PROTOCOL = 5, SET = 6, TRIES = 13, PROTECTED = 14 };
 enum { SET_PARAMETERS = 0x61, POWER_ON = 0x62, POWER_OFF = 0x63, SLOT_STATUS = 0x65 };
 enum { GET_PARAMETERS = 0x6c, RESET_PARAMETERS = 0x6d, TRANSFER = 0x6f };
 enum { SLE4428 = 20, SLE4418 = 21, SLE4442 = 30, SLE4432 = 31 };
@@ -36,21 +36,22 @@ static const uint8_t place_of[256] = {
 };
 
 // A row of the cards. An image length of 0 is no kind; a page of 0 is a card with protection bits; a full
-// counter of 0 is no code card, and where such a card has bits, the counter's place is past the image.
+// counter of 0 is no code card, and where such a card has bits, the counter's place is past the image. The tries
+// are those of a full counter.
 struct chip {
     uint16_t image, memory, commands, counter, protection, protectable, d1_end;
-    uint8_t select, page, full, code_len;
+    uint8_t select, page, full, tries, code_len;
 };
 
-#define I2C(bytes, page, select) { bytes, bytes, OF_I2C, 0, 0, 0, 0, select, page, 0, 0 }
+#define I2C(bytes, page, select) { bytes, bytes, OF_I2C, 0, 0, 0, 0, select, page, 0, 0, 0 }
 static const struct chip chips[] = {
     [1] = I2C(128, 8, 1),     [2] = I2C(256, 8, 1),     [3] = I2C(512, 16, 1),
     [4] = I2C(1024, 16, 1),   [5] = I2C(2048, 16, 1),   [6] = I2C(4096, 32, 2),
     [7] = I2C(8192, 32, 2),   [8] = I2C(16384, 64, 2),  [9] = I2C(32768, 64, 2),
-    [SLE4428] = { 1152, 1024, OF_4428, 0x3fd, 1024, 1024, 0x3fd, TYPE_05, 0, 0xff, 2 },
-    [SLE4418] = { 1152, 1024, OF_NO_CODE, 1152, 1024, 1024, 1024, TYPE_05, 0, 0, 0 },
-    [SLE4442] = { 264, 256, OF_4442, 260, 256, 32, 32, TYPE_06, 0, 0x07, 3 },
-    [SLE4432] = { 264, 256, OF_NO_CODE, 264, 256, 32, 32, TYPE_06, 0, 0, 0 },
+    [SLE4428] = { 1152, 1024, OF_4428, 0x3fd, 1024, 1024, 0x3fd, TYPE_05, 0, 0xff, 8, 2 },
+    [SLE4418] = { 1152, 1024, OF_NO_CODE, 1152, 1024, 1024, 1024, TYPE_05, 0, 0, 0, 0 },
+    [SLE4442] = { 264, 256, OF_4442, 260, 256, 32, 32, TYPE_06, 0, 0x07, 3, 3 },
+    [SLE4432] = { 264, 256, OF_NO_CODE, 264, 256, 32, 32, TYPE_06, 0, 0, 0, 0 },
 };
 
 // The chip of a kind that the image is one of, or none.
@@ -105,14 +106,51 @@ static inline int set_is_sound(const uint8_t *record, const struct chip *chip) {
     return protocol || !(record[SET + 5] | record[SET + 6]);
 }
 
-// Whether all is 00h behind the parameters.
+// Tries left: the one bits of the counter, 0 without a code.
+static inline unsigned tries_in(const struct chip *chip, const uint8_t *image) {
+    return chip->full ? (unsigned)__builtin_popcount(image[chip->counter]) : 0;
+}
+
+// The number of protected bytes: the zero bits of the protection bytes, in one word of four bytes or sixteen of eight.
+static inline unsigned protected_in(const struct chip *chip, const uint8_t *image) {
+    const uint8_t *bits = image + chip->protection;
+    uint64_t eight;
+    uint32_t four;
+    if (chip->select == TYPE_06) {
+        memcpy(&four, bits, 4);
+        return 32 - (unsigned)__builtin_popcount(four);
+    }
+    if (chip->select != TYPE_05)
+        return 0;
+    unsigned ones = 0;
+    for (size_t i = 0; i < 128; i += 8) {
+        memcpy(&eight, bits + i, 8);
+        ones += (unsigned)__builtin_popcountll(eight);
+    }
+    return 1024 - ones;
+}
+
+// The stored number of protected bytes, low byte first.
+static inline unsigned stored_protected(const uint8_t *record) { return record[PROTECTED] | record[PROTECTED + 1] << 8; }
+
+static inline void store_protected(uint8_t *record, unsigned count) {
+    record[PROTECTED] = (uint8_t)count;
+    record[PROTECTED + 1] = (uint8_t)(count >> 8);
+}
+
+// Whether both stored counts are the image's, or with no card 0.
+static inline int counts_are_true(const uint8_t *record, const struct chip *chip, const uint8_t *image) {
+    if (!chip)
+        return !(record[TRIES] | stored_protected(record));
+    return record[TRIES] == tries_in(chip, image) && stored_protected(record) == protected_in(chip, image);
+}
+
+// Whether all is 00h behind the counts.
 static inline int rest_is_blank(const uint8_t *record) {
     uint64_t a, b;
-    uint32_t c;
-    memcpy(&a, record + 13, 8);
-    memcpy(&b, record + 21, 8);
-    memcpy(&c, record + 28, 4);
-    return (a | b | c) == 0;
+    memcpy(&a, record + 16, 8);
+    memcpy(&b, record + 24, 8);
+    return (a | b) == 0;
 }
 
 static inline int is_sound(const uint8_t *record, const struct chip *chip, const uint8_t *image) {
@@ -180,6 +218,18 @@ static int store_unprotected(const struct chip *chip, uint8_t *restrict image, s
     }
     memcpy(image + at, data, end - at);
     return equal;
+}
+
+// D1: each byte of at..end-1 that is the one sent becomes protected. How many were not before.
+static unsigned protect_equal(const uint8_t *image, uint8_t *bits, size_t at, size_t end, const uint8_t *restrict data) {
+    unsigned more = 0;
+    for (; at < end; at++, data++)
+        if (image[at] == *data) {
+            unsigned was = bits[at / 8];
+            more += was >> at % 8 & 1;
+            bits[at / 8] = (uint8_t)(was & ~(1u << at % 8));
+        }
+    return more;
 }
 
 // D0 on I2C. Up to the chip's page the cuts change nothing: the range holds the data.
@@ -323,9 +373,7 @@ static inline unsigned command(uint8_t *restrict record, const struct chip *chip
             return WRONG_PLACE;
         if (is_locked(record, chip))
             return NOT_ALLOWED;
-        for (uint8_t *bits = image + chip->protection; at < end; at++, data++)
-            if (image[at] == *data)
-                bits[at / 8] &= (uint8_t)~(1u << at % 8);
+        store_protected(record, stored_protected(record) + protect_equal(image, image + chip->protection, at, end, data));
         return DONE;
     case C20: {
         if (p3 != chip->code_len)
@@ -340,6 +388,7 @@ static inline unsigned command(uint8_t *restrict record, const struct chip *chip
         tries = equal ? chip->full : tries & (tries - 1);
         *counter = (uint8_t)tries;
         record[OPEN] = (uint8_t)equal;
+        record[TRIES] = equal ? chip->tries : (uint8_t)(record[TRIES] - 1);
         return DONE | tries;
     }
     default: // D2
@@ -390,7 +439,7 @@ int32_t plain_message(uint8_t *restrict record, size_t record_len, uint8_t *rest
         if (!chip)
             return REFUSED_IMAGE;
     }
-    if (record_len != RECORD || !is_sound(record, chip, image))
+    if (record_len != RECORD || !is_sound(record, chip, image) || !counts_are_true(record, chip, image))
         return REFUSED_RECORD;
 
     size_t n = message_len - HEADER;
@@ -476,9 +525,13 @@ int32_t plain_insert(uint8_t *record, size_t record_len, uint8_t kind, const uin
         return REFUSED_RECORD;
     if (record[KIND])
         return REFUSED_OCCUPIED;
-    if (!chip_of(kind, image, image_len))
+    const struct chip *chip = chip_of(kind, image, image_len);
+    if (!chip)
         return REFUSED_IMAGE;
-    return keep_empty(record, kind);
+    keep_empty(record, kind);
+    record[TRIES] = (uint8_t)tries_in(chip, image);
+    store_protected(record, protected_in(chip, image));
+    return 0;
 }
 
 int32_t plain_remove(uint8_t *record, size_t record_len) {

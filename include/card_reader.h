@@ -19,8 +19,11 @@
  *   5        protocol number of the slot's parameter set: 0 for T=0, 1 for T=1
  *   6 to 12  the set's bytes, as SetParameters has them from its byte 10 on: T=1 has seven; T=0 has five, and bytes 11
  *            and 12 are 00h
- *   13..     the rest, all 00h
- * The set is one that SetParameters takes; with no card in, it is the default, T=0 with 11 00 00 0A 00.
+ *   13       tries left; 0 with no card, for I2C and for a card without a code
+ *   14, 15   number of protected bytes, 0 to 1024, low byte first; 0 with no card and for I2C
+ *   16..     the rest, all 00h
+ * The set is one that SetParameters takes; with no card in, it is the default, T=0 with 11 00 00 0A 00. Both counts are
+ * the image's: card_reader_tries and card_reader_protected read them from the record alone.
  * A record starts as what card_reader_remove makes of it, whatever it held before. Zeros with a page of 8 are no empty
  * record: a set of zeros is none that SetParameters takes, and a message on them is turned down, CARD_READER_E_RECORD.
  *
@@ -67,7 +70,8 @@ extern "C" {
 #define CARD_READER_E_IMAGE (-3)
 /* The record has another length than CARD_READER_RECORD, a byte that may only be 0 or 1 is neither, a byte of the rest
  * is not 00h, or what it says cannot be so (a page of no reader, a type that is not the card's, an open card that has no
- * code, a parameter set that SetParameters would not take, one that is not the default with no card in, and the like). */
+ * code, a parameter set that SetParameters would not take, one that is not the default with no card in, and the like), or
+ * one of its counts is not the image's, or with no card not 0. */
 #define CARD_READER_E_RECORD (-4)
 /* A card is in already. */
 #define CARD_READER_E_OCCUPIED (-5)
@@ -84,7 +88,8 @@ extern "C" {
 int32_t card_reader_message(uint8_t *record, size_t record_length, uint8_t *image, size_t image_length,
                             const uint8_t *message, size_t message_length, uint8_t *answer, size_t answer_length);
 
-/* A card is put in: the record becomes that of the card, inactive, with no type, page 8, closed, with the default set.
+/* A card is put in: the record becomes that of the card, inactive, with no type, page 8, closed, with the default set and
+ * the counts of the image.
  *   record   the slot; afterwards the slot with the card
  *   kind     one of the kinds above
  *   image    the card's memory, which is only looked at
@@ -95,6 +100,25 @@ int32_t card_reader_insert(uint8_t *record, size_t record_length, uint8_t kind, 
  *   record   the slot; afterwards the empty slot
  * Returns 0, or -4 where the record has another length. */
 int32_t card_reader_remove(uint8_t *record, size_t record_length);
+
+/* The counts for a status screen, from a record alone, without a call of the library.
+ * They are the image's after every insertion that returns 0 and every message that is answered, and 0 after every removal.
+ * A call that is turned down leaves them as they are. Before the first call on a record its bytes mean nothing.
+ *   record   CARD_READER_RECORD bytes, which are only looked at */
+
+/* Tries left, the one bits of the card's counter: 0 to 8 for an SLE4428, 0 to 3 for an SLE4442; 0 with no card, for I2C
+ * and for a card without a code. */
+static inline unsigned card_reader_tries(const uint8_t *record)
+{
+    return record[13];
+}
+
+/* How many bytes of the card are protected: 0 to 1024 for an SLE4418, to 1023 for an SLE4428, to 32 for an SLE4442 and an
+ * SLE4432; 0 with no card and for I2C. */
+static inline unsigned card_reader_protected(const uint8_t *record)
+{
+    return record[14] + 256u * record[15];
+}
 
 #ifdef __cplusplus
 }

@@ -1,5 +1,6 @@
 /* A card in the reader, from C: an SLE4442 is put in and powered, the slot's parameters are asked for and set, the type
- * is selected, and the card gets a wrong code and the right one. examples/c/build builds and runs it. */
+ * is selected, the card gets two wrong codes and the right one, and four of its bytes are protected. A status screen shows
+ * the counts after each message. examples/c/build builds and runs it. */
 #include "card_reader.h"
 
 #include <stdio.h>
@@ -19,11 +20,18 @@ static void show(const char *what, const uint8_t *bytes, int32_t length)
     printf("\n");
 }
 
+/* The status screen: it is handed the record and nothing else. */
+static void screen(const uint8_t *slot)
+{
+    printf("%-12s tries %u, protected %u\n", "  screen", card_reader_tries(slot), card_reader_protected(slot));
+}
+
 static void send(const char *what, const uint8_t *message, size_t length)
 {
     uint8_t answer[CARD_READER_ROOM];
     int32_t n = card_reader_message(record, sizeof record, image, sizeof image, message, length, answer, sizeof answer);
     show(what, answer, n);
+    screen(record);
 }
 
 int main(void)
@@ -36,6 +44,7 @@ int main(void)
     static const uint8_t select[] = {0x6F, 6, 0, 0, 0, 0, 4, 0, 0, 0, 0xFF, 0xA4, 0, 0, 1, 0x06};
     static const uint8_t wrong[] = {0x6F, 8, 0, 0, 0, 0, 5, 0, 0, 0, 0xFF, 0x20, 0, 0, 3, 0x01, 0x02, 0x03};
     static const uint8_t right[] = {0x6F, 8, 0, 0, 0, 0, 6, 0, 0, 0, 0xFF, 0x20, 0, 0, 3, 0x11, 0x22, 0x33};
+    static const uint8_t protect[] = {0x6F, 9, 0, 0, 0, 0, 7, 0, 0, 0, 0xFF, 0xD1, 0, 0, 4, 0xA2, 0x13, 0x10, 0x91};
     static const uint8_t start[] = {0xA2, 0x13, 0x10, 0x91};
     size_t i;
 
@@ -49,14 +58,20 @@ int main(void)
     printf("remove       %d\n", (int)card_reader_remove(record, sizeof record));
     send("no card", power_on, sizeof power_on);
     printf("insert       %d\n", (int)card_reader_insert(record, sizeof record, CARD_READER_SLE4442, image, sizeof image));
+    screen(record);
     printf("insert again %d\n", (int)card_reader_insert(record, sizeof record, CARD_READER_SLE4442, image, sizeof image));
     send("power on", power_on, sizeof power_on);
     send("parameters", get, sizeof get);
     send("set T=1", set, sizeof set);
     send("select", select, sizeof select);
     send("wrong code", wrong, sizeof wrong);
+    send("wrong again", wrong, sizeof wrong);
     send("right code", right, sizeof right);
+    send("protect", protect, sizeof protect);
+    send("and again", protect, sizeof protect);
     send("cut message", right, 9);
-    show("record", record, 13);
+    show("record", record, 16);
+    printf("remove       %d\n", (int)card_reader_remove(record, sizeof record));
+    screen(record);
     return 0;
 }

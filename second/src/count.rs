@@ -1,11 +1,13 @@
 //! Counts what random sessions and cases reached, and holds a run to what it has to reach: every
 //! bError, every status word, every command on every type, or kind with protection bits, every way
-//! that bytes of a written range are protected, every fault of a parameter set, every refusal.
+//! that bytes of a written range are protected, every fault of a parameter set, what tries left and
+//! number of protected bytes show, what changes and what keeps them, every refusal.
 
+mod counts;
 mod parameters;
 mod writes;
 
-use crate::case::{slot_of, Case, REST};
+use crate::case::{slot_of, Case, RECORD, REST};
 use crate::parameters::Parameters;
 use crate::random::{CASE_ENDINGS, ENDINGS, RECORD_FAULTS, SET_FAULTS};
 use crate::reader::{Chip, Slot, CHIPS};
@@ -121,10 +123,10 @@ impl Count {
         goals.iter().map(|goal| format!("{:8}  {}\n", self.0.get(goal).unwrap_or(&0), goal)).collect()
     }
 
-    /// An answered message; the answer in hex.
-    pub fn answer(&mut self, before: &Before, message: &[u8], answer: &str) {
-        let answer: Vec<u8> =
-            (0..answer.len() / 2).map(|k| u8::from_str_radix(&answer[2 * k..2 * k + 2], 16).unwrap_or(0)).collect();
+    /// An answered message, and the slot record after it; the answer in hex.
+    pub fn answer(&mut self, before: &Before, after: &Slot, message: &[u8], answer: &str) {
+        let answer = bytes(answer);
+        self.counts(before, after, message, &answer);
         let (kind, status, error) = (message[0], answer[7], answer[8]);
         let came = message.len() - 10;
         self.add(format!("bStatus {:02X}h", status));
@@ -168,10 +170,10 @@ impl Count {
         if came == 261 {
             self.add("261 data bytes reach the commands".to_string());
         }
-        self.command(before, &message[10..], &answer[10..]);
+        self.command(before, after, &message[10..], &answer[10..]);
     }
 
-    fn command(&mut self, before: &Before, apdu: &[u8], told: &[u8]) {
+    fn command(&mut self, before: &Before, after: &Slot, apdu: &[u8], told: &[u8]) {
         let on = before.on();
         let word = u16::from_be_bytes([told[told.len() - 2], told[told.len() - 1]]);
         if apdu.len() < 5 {
@@ -188,7 +190,8 @@ impl Count {
         let full = if before.slot.selected == 0x05 { 0x90ff } else { 0x9007 };
         match (ins, word) {
             (0x20, _) if word >> 8 == 0x90 && before.counter() == 0 => {
-                self.add(format!("{}: 20 without tries: {:04X}", on, word))
+                self.add(format!("{}: 20 without tries: {:04X}", on, word));
+                self.without_tries(before, apdu);
             }
             (0x20, _) if word == full => {
                 self.add(format!("{}: 20 right with {} tries", on, before.counter().count_ones()));
@@ -203,6 +206,9 @@ impl Count {
                 }
             }
             _ => self.add(format!("{}: {:02X}: {:04X}", on, ins, word)),
+        }
+        if ins == 0xd1 && word == 0x9000 {
+            self.protecting(before, after, apdu);
         }
         let covers = |k: usize| (place..place + p3).contains(&k);
         match (on, ins, word) {
@@ -254,8 +260,11 @@ impl Count {
             self.values_of_set("sound", &slot.parameters);
             let mut parts = line.split(' ');
             let length = parts.nth(1).and_then(|length| length.parse().ok()).unwrap_or(0);
-            let answer = parts.nth(1).unwrap_or("");
-            self.answer(&Before::of(&slot, &case.image), &case.message, &answer[..2 * length]);
+            let mut record = [0; RECORD];
+            record.copy_from_slice(&bytes(parts.next().unwrap_or("")));
+            let answer = parts.next().unwrap_or("");
+            let before = Before::of(&slot, &case.image);
+            self.answer(&before, &slot_of(&record), &case.message, &answer[..2 * length]);
             if slot.kind == 0 && !case.image.is_empty() {
                 self.add("no card, and an image that is not looked at".to_string());
             }
@@ -270,6 +279,7 @@ impl Count {
                 if SET_FAULTS.iter().any(|fault| fault.name == why) {
                     self.add(format!("4: an unsound set, {:02X}h", case.message[0]));
                 }
+                self.unsound_counts(why, &case.message);
             }
             _ => {
                 for later in number + 1..5 {
@@ -280,6 +290,11 @@ impl Count {
             }
         }
     }
+}
+
+/// The bytes of lower-case hex digits.
+fn bytes(hex: &str) -> Vec<u8> {
+    (0..hex.len() / 2).map(|k| u8::from_str_radix(&hex[2 * k..2 * k + 2], 16).unwrap_or(0)).collect()
 }
 
 /// What both kinds of run have to reach with answered messages.
@@ -383,6 +398,7 @@ fn answers() -> Vec<String> {
     }
     goals.extend(writes::answers());
     goals.extend(parameters::answers());
+    goals.extend(counts::answers());
     goals
 }
 
@@ -421,6 +437,7 @@ pub fn session_goals() -> Vec<String> {
     }
     goals.extend(parameters::in_sessions());
     goals.extend(writes::in_sessions());
+    goals.extend(counts::in_sessions());
     goals.push("an equal message again".to_string());
     for length in 0..10 {
         goals.push(format!("msg 2: {} bytes", length));
@@ -455,6 +472,7 @@ pub fn trial_goals() -> Vec<String> {
         goals.push(format!("4: rest byte {} not 00h", k));
     }
     goals.extend(parameters::in_cases());
+    goals.extend(counts::in_cases());
     goals.push("4: several faults".to_string());
     for (first, second) in [(1, 2), (1, 3), (1, 4), (2, 3), (2, 4), (3, 4)] {
         goals.push(format!("{} before {}", first, second));
@@ -487,12 +505,14 @@ mod tests {
 
     /// What is counted of these data of a 6Fh under the card's kind.
     pub(super) fn counted_on(slot: &Slot, image: &[u8], apdu: &[u8]) -> Vec<String> {
-        let before = Before::of(slot, image);
-        let message = [&[0x6f, apdu.len() as u8, 0, 0, 0, 0, 0, 0, 0, 0], apdu].concat();
+        let chip = Chip::of(slot.kind).unwrap();
+        let mut slot = Slot { tries: chip.tries(image), protected: chip.protected_bytes(image), ..slot.clone() };
+        let before = Before::of(&slot, image);
+        let message = [&[0x6f], &(apdu.len() as u32).to_le_bytes()[..], &[0; 5], apdu].concat();
         let mut answer = [0; ANSWER_BUFFER];
-        let length = reader::message(&mut slot.clone(), &mut image.to_vec(), &message, &mut answer).unwrap();
+        let length = reader::message(&mut slot, &mut image.to_vec(), &message, &mut answer).unwrap();
         let mut count = Count::default();
-        count.answer(&before, &message, &crate::step::hex(&answer[..length]));
+        count.answer(&before, &slot, &message, &crate::step::hex(&answer[..length]));
         let kind = format!("kind {}: ", slot.kind);
         count.0.into_keys().filter_map(|what| Some(what.strip_prefix(&kind)?.to_string())).collect()
     }
@@ -513,7 +533,12 @@ mod tests {
         assert_eq!(counted(&[0xff, 0xb2, 0x03, 0xf6, 1]), ["B2: 9000"]);
         assert_eq!(
             counted(&[0xff, 0xd1, 0x03, 0xfd, 3, 0x00, 0xc2, 0x00]),
-            ["D1 of 3FDh, now protected: 9000", "D1 of 3FFh, passed over: 9000", "D1: 9000"]
+            [
+                "D1 adds some, protected, unequal: 9000",
+                "D1 of 3FDh, now protected: 9000",
+                "D1 of 3FFh, passed over: 9000",
+                "D1: 9000"
+            ]
         );
     }
 

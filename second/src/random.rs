@@ -3,11 +3,13 @@
 mod cards;
 mod cases;
 mod commands;
+mod counts;
 mod messages;
 mod parameters;
 mod sessions;
 
 pub use cases::{cases, Part, CASE_ENDINGS, RECORD_FAULTS};
+pub use counts::{borders, most_protected, COUNT_FAULTS};
 pub use parameters::{DI, FI, SET_FAULTS};
 pub use sessions::{sessions, ENDINGS};
 

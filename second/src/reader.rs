@@ -111,6 +111,20 @@ impl Chip {
         image[self.protection + k / 8] &= !(1 << (k % 8));
     }
 
+    /// Tries left, the one bits of the counter; 0 on a card without a code.
+    pub fn tries(&self, image: &[u8]) -> u8 {
+        if self.has_code() {
+            image[self.counter].count_ones() as u8
+        } else {
+            0
+        }
+    }
+
+    /// The number of protected bytes: every byte that has a bit is asked.
+    pub fn protected_bytes(&self, image: &[u8]) -> u16 {
+        (0..self.protectable).filter(|&k| self.protected(image, k)).count() as u16
+    }
+
     /// Whether the image is one of this chip: its length; then a 4442's counter is at most 07h, a
     /// 4428's bit for 3FDh is 1, and a 4432's last four bytes are 00h.
     fn fits(&self, image: &[u8]) -> bool {
@@ -129,12 +143,16 @@ pub struct Slot {
     pub page: u8,
     pub open: bool,
     pub parameters: Parameters,
+    /// Tries left, and the number of protected bytes.
+    pub tries: u8,
+    pub protected: u16,
 }
 
 impl Slot {
     /// The empty sound slot.
     pub fn empty() -> Slot {
-        Slot { kind: 0, active: false, selected: 0, page: 8, open: false, parameters: Parameters::default() }
+        let parameters = Parameters::default();
+        Slot { kind: 0, active: false, selected: 0, page: 8, open: false, parameters, tries: 0, protected: 0 }
     }
 
     /// The image is the chip's own where there is a card.
@@ -149,9 +167,15 @@ impl Slot {
             return false;
         }
         let chip = match chip {
-            None => return !self.active && self.page == 8 && self.parameters == Parameters::default(),
+            None => {
+                let default = self.parameters == Parameters::default();
+                return !self.active && self.page == 8 && default && self.tries == 0 && self.protected == 0;
+            }
             Some(chip) => chip,
         };
+        if self.tries != chip.tries(image) || self.protected != chip.protected_bytes(image) {
+            return false;
+        }
         if self.selected != 0 && self.selected != chip.select {
             return false;
         }
@@ -171,7 +195,7 @@ pub fn insert(slot: &mut Slot, kind: u8, image: &[u8]) -> Result<(), u8> {
     }
     match Chip::of(kind) {
         Some(chip) if chip.fits(image) => {
-            *slot = Slot { kind, ..Slot::empty() };
+            *slot = Slot { kind, tries: chip.tries(image), protected: chip.protected_bytes(image), ..Slot::empty() };
             Ok(())
         }
         _ => Err(3),
@@ -516,6 +540,7 @@ fn protect(card: &mut Card, given: &Given, _: &mut Data) -> u16 {
             card.chip.protect(card.image, address);
         }
     }
+    card.slot.protected = card.chip.protected_bytes(card.image);
     DONE
 }
 
@@ -529,6 +554,7 @@ fn present(card: &mut Card, given: &Given, _: &mut Data) -> u16 {
     card.slot.open = card.image[card.chip.code.clone()] == *given.data;
     let after = if card.slot.open { card.chip.full } else { counter - lowest_one };
     card.image[card.chip.counter] = after;
+    card.slot.tries = if card.slot.open { card.chip.tries(card.image) } else { card.slot.tries - 1 };
     DONE + u16::from(after)
 }
 

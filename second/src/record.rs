@@ -56,6 +56,9 @@ fn told_insert(body: &[u8]) -> String {
         let code = &image[chip.code.clone()];
         text.push_str(&format!(", counter {:02x}, code {}", image[chip.counter], hex(code)));
     }
+    if chip.has_bits() && image.len() == chip.image {
+        text.push_str(&format!(", {} protected", chip.protected_bytes(image)));
+    }
     text
 }
 

@@ -1,7 +1,7 @@
 //! Makes a session or a list of cases that two programs answer differently as short as it gets,
 //! and tells it.
 
-use crate::case::{raw, Case, PROTOCOL, REST, SET};
+use crate::case::{raw, slot_of, Case, PROTOCOL, REST, SET, TRIES};
 use crate::random;
 use crate::reader::{Chip, Slot};
 use crate::record::{told_message, Record};
@@ -188,16 +188,19 @@ impl Part for random::Part {
             random::Part::Case(case) => case,
             random::Part::Ending(bytes) => return format!("{} bytes as they stand", bytes.len()),
         };
-        let record = &case.record;
+        let (record, slot) = (&case.record, slot_of(&case.record));
         let kind = match Chip::of(record[0]) {
             Some(chip) => chip.name,
             None if record[0] == 0 => "no card",
             None => "no kind",
         };
+        let (tries, protected) = case.counts();
         let rest = if record[REST..].iter().all(|&byte| byte == 0) { "00" } else { "not all 00" };
         format!(
-            "record: kind {} ({}), active {}, type {:02x}, page {}, open {}, protocol {}, set {}, rest {}\n\
-             buffer: {} bytes of {:02x}\nmessage: {}\n         {}\nimage: {} bytes",
+            "record: kind {} ({}), active {}, type {:02x}, page {}, open {}, protocol {}, set {}, \
+             tries {}, protected {}, rest {}\n\
+             buffer: {} bytes of {:02x}\nmessage: {}\n         {}\n\
+             image: {} bytes, tries {}, protected {}",
             record[0],
             kind,
             record[1],
@@ -205,13 +208,17 @@ impl Part for random::Part {
             record[3],
             record[4],
             record[PROTOCOL],
-            hex(&record[SET..REST]),
+            hex(&record[SET..TRIES]),
+            slot.tries,
+            slot.protected,
             rest,
             case.buffer,
             case.fill,
             told_message(&case.message),
             hex(&case.message),
-            case.image.len()
+            case.image.len(),
+            tries,
+            protected
         )
     }
 
@@ -233,7 +240,7 @@ impl Part for random::Part {
             smaller_message(&with.message, &mut |less| still(&Case { message: less.to_vec(), ..with.clone() }));
         // The default set first: the other bytes are most often sound with it alone.
         let mut with = case.clone();
-        with.record[PROTOCOL..REST].copy_from_slice(&raw(&Slot::empty())[PROTOCOL..REST]);
+        with.record[PROTOCOL..TRIES].copy_from_slice(&raw(&Slot::empty())[PROTOCOL..TRIES]);
         if still(&with) {
             case = with;
         }
@@ -245,10 +252,19 @@ impl Part for random::Part {
             still(&Case { record, ..with.clone() })
         });
         case.record.copy_from_slice(&record);
-        let with = case.clone();
-        let end = case.image.len();
-        clear(&mut case.image, 0, end, &mut |less| still(&Case { image: less.to_vec(), ..with.clone() }));
-        random::Part::Case(case)
+        // Counts that are the image's stay so.
+        let slot = slot_of(&case.record);
+        let right = (slot.tries, slot.protected) == case.counts();
+        let with_image = |image: &[u8]| {
+            let mut with = Case { image: image.to_vec(), ..case.clone() };
+            if right {
+                with.store_counts();
+            }
+            with
+        };
+        let (mut image, end) = (case.image.clone(), case.image.len());
+        clear(&mut image, 0, end, &mut |less| still(&with_image(less)));
+        random::Part::Case(with_image(&image))
     }
 }
 

@@ -66,15 +66,18 @@ static int32_t measured(void (*function)(void), const uintptr_t *arguments, size
     return result;
 }
 
-/* ---- what a call is: a message of a type, one with a command, any message that is turned down, an insertion, a removal */
+/* ---- what a call is: a message of a type, one with a command, any message that is turned down, one on a record with a
+ * wrong count, an insertion, a removal */
 
-enum { OTHER, T61, T62, T63, T65, T6C, T6D, T6F, A4, C01, B0, B1, B2, D0, D1, C20, D2, MESSAGE, INSERTION, REMOVAL, SUBJECTS };
+enum { OTHER, T61, T62, T63, T65, T6C, T6D, T6F, A4, C01, B0, B1, B2, D0, D1, C20, D2 };
+enum { MESSAGE = D2 + 1, WRONG_TRIES, WRONG_PROTECTED, INSERTION, REMOVAL, SUBJECTS };
 
 static const uint8_t types[] = { 0x61, 0x62, 0x63, 0x65, 0x6c, 0x6d, 0x6f };
 static const uint8_t commands[] = { 0xa4, 0x01, 0xb0, 0xb1, 0xb2, 0xd0, 0xd1, 0x20, 0xd2 };
 static const char *const subjects[SUBJECTS] = {
     "another type", "61h", "62h", "63h", "65h", "6Ch", "6Dh", "6Fh",         "A4",           "01",
-    "B0",           "B1",  "B2",  "D0",  "D1",  "20",  "D2",  "any message", "an insertion", "a removal",
+    "B0",           "B1",  "B2",  "D0",  "D1",  "20",  "D2",  "any message", "tries wrong",  "protected bytes wrong",
+    "an insertion", "a removal",
 };
 
 #define OF(subject) (1u << (subject))
@@ -150,6 +153,25 @@ static void make_card(uint8_t *to, const struct kind *kind, uint8_t counter, uin
         to[1024 + 0x3fd / 8] |= 1 << 0x3fd % 8;
 }
 
+static unsigned ones(uint8_t byte)
+{
+    unsigned n = 0;
+    for (; byte; byte = (uint8_t)(byte >> 1))
+        n += byte & 1;
+    return n;
+}
+
+/* The counts of a card, as bytes 13 to 15 of the record have them. */
+static void put_counts(uint8_t *counts, const uint8_t *from, const struct kind *kind)
+{
+    size_t i, count = 0;
+    for (i = 0; i < families[kind->family].protection; i++)
+        count += 8 - ones(from[kind->memory + i]);
+    counts[0] = (uint8_t)(kind->family < CODE_28 ? 0 : ones(from[families[kind->family].counter]));
+    counts[1] = (uint8_t)count;
+    counts[2] = (uint8_t)(count >> 8);
+}
+
 /* ---- situations: on which kind of card, what call, and what came of it */
 
 /* What came: a status word, of which 90xx stands for a code command's 90 with tries left; or one of these. */
@@ -166,7 +188,7 @@ static const struct { unsigned cards, subjects, outcome; } rules[] = {
     { ANY, OF(MESSAGE), REFUSED | 1 },
     { ANY, OF(MESSAGE), REFUSED | 2 },
     { IS_CARD, OF(MESSAGE), REFUSED | 3 },
-    { ANY, OF(MESSAGE), REFUSED | 4 },
+    { ANY, OF(MESSAGE) | OF(WRONG_TRIES) | OF(WRONG_PROTECTED), REFUSED | 4 },
     { ANY, OF(INSERTION), REFUSED | 4 },
     { ANY, OF(INSERTION), REFUSED | 5 },
     { ANY, OF(INSERTION), REFUSED | 3 },
@@ -280,8 +302,8 @@ static void keep(size_t function, size_t depth, size_t kind, unsigned outcome, c
 
 /* ---- messages */
 
-/* The state before each message. */
-static size_t kind_in;
+/* The state before each message, and what a message is that is turned down. */
+static size_t kind_in, down = MESSAGE;
 static uint8_t kept_record[CARD_READER_RECORD], kept_image[LARGEST];
 
 static size_t place_in(const uint8_t *values, size_t count, uint8_t value)
@@ -297,11 +319,11 @@ static unsigned outcome_of(size_t length, int32_t result, size_t *subject)
 {
     size_t type = place_in(types, sizeof types, message[0]), command = place_in(commands, sizeof commands, message[11]);
     unsigned word;
-    *subject = MESSAGE;
+    *subject = down;
     if (result < 0)
         return REFUSED | (unsigned)-result;
-    /* A card without a code that is said to be open gets no answer. */
-    if (result < 10 || result > CARD_READER_LONGEST || (kept_record[4] && kinds[kind_in].family < CODE_28))
+    /* On a record with a wrong count there is no answer, nor from a card without a code that is said to be open. */
+    if (result < 10 || result > CARD_READER_LONGEST || down != MESSAGE || (kept_record[4] && kinds[kind_in].family < CODE_28))
         return NO_RESULT;
     *subject = type < sizeof types ? T61 + type : OTHER;
     if (answer[7] & 0x40)
@@ -467,6 +489,21 @@ static void send_values(void)
     }
 }
 
+/* Each byte of the counts one more and one less. */
+static void send_miscounted(void)
+{
+    size_t at, i;
+    begin(0x65, 0);
+    for (at = 13; at < 16; at++)
+        for (i = 0; i < 2; i++) {
+            down = at == 13 ? WRONG_TRIES : WRONG_PROTECTED;
+            kept_record[at] = (uint8_t)(kept_record[at] + (i ? 255 : 1));
+            send(10);
+            kept_record[at] = (uint8_t)(kept_record[at] - (i ? 255 : 1));
+        }
+    down = MESSAGE;
+}
+
 /* What is turned down: the length of each slice, an image that is no card, a record with another byte in each place. */
 static void send_refused(void)
 {
@@ -509,10 +546,12 @@ static void send_all(int active, int selected, uint8_t page, int open, const uin
     kept_record[3] = page;
     kept_record[4] = (uint8_t)open;
     memcpy(kept_record + 5, set, 8);
+    put_counts(kept_record + 13, kept_image, &kinds[kind_in]);
     memcpy(image, kept_image, kinds[kind_in].image);
     send_types();
     send_sets();
     send_refused();
+    send_miscounted();
     send_commands();
     send_values();
 }
@@ -578,6 +617,8 @@ static void every_insertion(void)
             row++;
         size = kinds[row].image;
         family = kinds[row].family;
+        make_card(image, &kinds[row], families[family].full, 0x55);
+        insert(0, (uint8_t)number, row, CARD_READER_RECORD, size);
         make_card(image, &kinds[row], families[family].full, 0xff);
         insert(0, (uint8_t)number, row, CARD_READER_RECORD, size);
         insert(0, (uint8_t)number, row, CARD_READER_RECORD, size + 1);

@@ -22,7 +22,7 @@ pub bit-half : (b j : ℕ) → bitOf b (suc j) ≡ bitOf (b / 2) j
 bit-half b j = ap (λ (n : ℕ). n % 2) (ap (λ (n : ℕ). b / n) (pow-suc 2 j ∙ mul-comm (2 ^ j) 2) ∙ sym (div-div-eq-div-mul b 2 (2 ^ j)))
 
 -- a number with bit i + 1 cleared: half of it is its half with bit i cleared, and its last bit stays
-clear-half : (b i : ℕ) → cleared b (suc i) ≡ 2 * cleared (b / 2) i + b % 2
+pub clear-half : (b i : ℕ) → cleared b (suc i) ≡ 2 * cleared (b / 2) i + b % 2
 unfolding cleared
 clear-half b i =
     let e : bitOf b (suc i) * 2 ^ suc i ≡ bitOf (b / 2) i * 2 ^ i * 2 = rw (bit-half b i, pow-suc 2 i) (sym (mul-assoc _ _ _)) in

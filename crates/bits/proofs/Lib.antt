@@ -2,3 +2,4 @@ pub mod ProtectionLaws
 pub mod BitLaws
 pub mod PackLaws
 pub mod ScanLaws
+pub mod CountLaws

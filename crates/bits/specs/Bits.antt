@@ -2,7 +2,7 @@
 use Prim.Native.Nat.{ℕ, zero, suc, _+_, _-_, _*_, _/_, _%_, _^_}
 use mathlib.Core.Bool.{Bool, false}
 use mathlib.Core.List.{List, [], _∷_}
-use lib.ListN.{set}
+use lib.ListN.{take, drop, set}
 use lib.Dec.{ltb}
 use Rattle.words.specs.Choice.{_⇒_⁏_, _and_, _or_, _is_}
 use Rattle.words.specs.Bytes.{byte, series}
@@ -21,6 +21,15 @@ unfoldable pub carries : ℕ → List ℕ → ℕ → ℕ → Bool
 carries at [] k x = false
 carries at (v ∷ vs) k x = at is k and x is v or carries (at + 1) vs k x
 
+-- how many of a number's n lowest bits are 0, and how many of all bits of bytes
+unfoldable pub zeroBits : ℕ → ℕ → ℕ
+zeroBits zero b = 0
+zeroBits (suc n) b = 1 - b % 2 + zeroBits n (b / 2)
+
+unfoldable pub zerosOf : List ℕ → ℕ
+zerosOf [] = 0
+zerosOf (b ∷ bs) = zeroBits 8 b + zerosOf bs
+
 -- In an image whose protection bytes start at `bits` and hold a bit for each of the first `covered` memory bytes:
 module _ (bits covered : ℕ) where
   -- "byte k's protection bit is bit k mod 8 of protection byte k/8"; 1 for a byte that has none
@@ -30,6 +39,10 @@ module _ (bits covered : ℕ) where
   -- "0 means protected"
   unfoldable pub isProtected : List ℕ → ℕ → Bool
   isProtected image k = protectionBit image k is 0
+
+  -- 02: "number of protected bytes": the zero bits of the protection bytes
+  unfoldable pub protectedCount : List ℕ → ℕ
+  protectedCount image = zerosOf (take (covered / 8) (drop bits image))
 
   -- the first protected one of n bytes from k on: "the first protected byte in the range ends the search"
   unfoldable pub firstProtected : List ℕ → ℕ → ℕ → Place

@@ -9,8 +9,8 @@ ghost use mathlib.Core.Path.{_≡_};
 ghost use Prim.Native.Nat.{_+_, _-_, _*_, _/_, _%_, _≤_, _<_};
 ghost use lib.ListN.{length};
 ghost use Rattle.words.specs.Bounds.{addresses};
-ghost use Rattle.words.specs.Bytes.{over};
-ghost use Rattle.bits.specs.Bits.{cleared, isProtected, firstProtected, protecting, protectEqual, packedBytes};
+ghost use Rattle.words.specs.Bytes.{byte, over};
+ghost use Rattle.bits.specs.Bits.{bitOf, cleared, protectedCount, isProtected, firstProtected, protecting, protectEqual, packedBytes};
 ghost use Rattle.bits.specs.Inner.{OnesFrom};
 
 // Where a search ended.
@@ -90,26 +90,33 @@ pub fn read_bits(image: &[u8], bits: usize, covered: usize, at: usize, n: usize,
     }
 }
 
-// Byte k becomes protected.
-fn protect_one(image: &mut [u8], bits: usize, covered: usize, k: usize)
+// Byte k becomes protected. How many more are then: 1, or 0 where it was protected before.
+fn protect_one(image: &mut [u8], bits: usize, covered: usize, k: usize) -> usize
     requires { ⌜ bits + k / 8 < length (now image) ⌝ }
-    ensures { λ _. ⌜ now (image .exit) ≡ protecting bits covered (now (image .entry)) k ⌝ }
+    ensures image { λ _. ⌜ now (image .exit) ≡ protecting bits covered (now (image .entry)) k ⌝ }
+    ensures more { λ r. ⌜ r ≡ bitOf (byte (now (image .entry)) (bits + k / 8)) (k % 8) ⌝ }
 {
     let place = bits + k / 8;
-    image[place] = clear(image[place], k % 8);
+    let b = image[place];
+    let i = k % 8;
+    image[place] = clear(b, i);
+    wide((b >> i) % 2)
 }
 
-// Each byte from `at` on that equals its data byte becomes protected.
-pub fn protect(image: &mut [u8], bits: usize, covered: usize, at: usize, data: &[u8])
-    requires { ⌜ (at + length (now «data») ≤ length (now image)) × (bits + (at + length (now «data») + 7) / 8 ≤ length (now image)) ⌝ }
-    ensures { λ _. ⌜ now (image .exit) ≡ protectEqual bits covered (now (image .entry)) at (now («data» .entry)) ⌝ }
+// Each byte from `at` on that equals its data byte becomes protected. How many more are protected then.
+pub fn protect(image: &mut [u8], bits: usize, covered: usize, at: usize, data: &[u8]) -> usize
+    requires { ⌜ (at + length (now «data») ≤ length (now image)) × (at + length (now «data») ≤ covered) × (covered % 8 ≡ 0) × (bits + covered / 8 ≤ length (now image)) ⌝ }
+    ensures image { λ _. ⌜ now (image .exit) ≡ protectEqual bits covered (now (image .entry)) at (now («data» .entry)) ⌝ }
+    ensures more { λ r. ⌜ (protectedCount bits covered (now (image .exit)) ≡ protectedCount bits covered (now (image .entry)) + r) × (r ≤ length (now («data» .entry))) ⌝ }
 {
+    let mut more = 0;
     let mut i = 0;
     while i < data.len() {
         let k = at + i;
         if image[k] == data[i] {
-            protect_one(image, bits, covered, k);
+            more += protect_one(image, bits, covered, k);
         }
         i += 1;
     }
+    more
 }

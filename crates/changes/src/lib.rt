@@ -13,6 +13,7 @@ ghost use Prim.Native.Nat.{_+_, _≤_, _<_};
 ghost use lib.ListN.{length};
 ghost use Rattle.words.specs.Bounds.{leastTail};
 ghost use Rattle.chips.specs.Kinds.{facts};
+ghost use Rattle.counts.specs.Counts.{countIn};
 ghost use Rattle.orders.specs.Orders.{Does, performed, reported, written};
 
 // D0's bytes: an I2C card writes them by pages, any other stores those that are not protected. The report: on an I2C card always true, on any
@@ -49,7 +50,7 @@ pub fn write(
     Told { len, slot }
 }
 
-// D1: each byte that is equal to the stored one is protected.
+// D1: each byte that is equal to the stored one is protected. Those that were not before are added to the number of protected bytes.
 pub fn protect(
     chip: Chip,
     slot: Slot,
@@ -58,27 +59,31 @@ pub fn protect(
     data: &[u8],
     out: &mut [u8],
 ) -> Told
-    requires { ⌜ (leastTail ≤ length (now out)) × (length (now image) ≡ facts chip .size) × (at + length (now «data») ≤ facts chip .reach) ⌝ }
+    requires { ⌜ (leastTail ≤ length (now out)) × (length (now image) ≡ facts chip .size) × (at + length (now «data») ≤ facts chip .reach)
+        × (slot .protected ≡ countIn (facts chip) (now image)) ⌝ }
     ensures { λ r. ⌜ Does (performed (facts chip) slot (now (image .entry)) (now («data» .entry)) (Order.Protect at)) r (now (image .exit)) (now (out .entry)) (now (out .exit)) ⌝ }
 {
-    bits::protect(image, chip.facts().bits, chip.facts().covered, at, data);
+    let more = bits::protect(image, chip.facts().bits, chip.facts().covered, at, data);
     let len = put_two(out, 0, 0x90, 0x00);
-    Told { len, slot }
+    let next = slot.with_protected(slot.protected + more as u16);
+    Told { len, slot: next }
 }
 
-// 20: the code is presented, and 90 is told with the counter afterwards. The right code opens, any other closes.
+// 20: the code is presented, and 90 is told with the counter afterwards; tries left are the counter's. The right code opens, any other closes.
 pub fn present(chip: Chip, slot: Slot, image: &mut [u8], guess: &[u8], out: &mut [u8]) -> Told
     requires { ⌜ (leastTail ≤ length (now out)) × (length (now image) ≡ facts chip .size) × (facts chip .coded ≡ true) × (length (now guess) ≡ facts chip .digits) ⌝ }
     ensures { λ r. ⌜ Does (performed (facts chip) slot (now (image .entry)) (now (guess .entry)) Order.Present) r (now (image .exit)) (now (out .entry)) (now (out .exit)) ⌝ }
 {
     let counter = chip.facts().counter;
     let opens = codes::present(image, counter, chip.facts().full, chip.facts().code, guess);
-    let len = put_two(out, 0, 0x90, image[counter]);
+    let left = image[counter];
+    let len = put_two(out, 0, 0x90, left);
+    let counted = slot.with_tries(codes::tries_left(left));
     if opens {
-        let next = slot.open();
+        let next = counted.open();
         return Told { len, slot: next };
     }
-    let next = slot.close();
+    let next = counted.close();
     Told { len, slot: next }
 }
 

@@ -26,6 +26,8 @@ pub record Laid (f : Facts) : Type 0 where
   pub kept : f .covered ≤ f .memory
   pub behind : f .memory ≤ f .bits
   pub reached : f .reach ≤ f .covered
+  pub words : f .covered % 32 ≡ 0
+  pub few : f .covered ≤ 1024
   pub small : f .full < 256
 
 pub laid : (chip : Chip) → Laid (facts chip)
@@ -42,6 +44,8 @@ laid chip = record {
   kept = leb-true _ _ (each (λ (f : Facts). leb (f .covered) (f .memory)) refl chip);
   behind = leb-true _ _ (each (λ (f : Facts). leb (f .memory) (f .bits)) refl chip);
   reached = leb-true _ _ (each (λ (f : Facts). leb (f .reach) (f .covered)) refl chip);
+  words = eqb-true _ _ (each (λ (f : Facts). f .covered % 32 is 0) refl chip);
+  few = leb-true _ _ (each (λ (f : Facts). leb (f .covered) 1024) refl chip);
   small = ltb-true _ _ (each (λ (f : Facts). ltb (f .full) 256) refl chip);
 }
 

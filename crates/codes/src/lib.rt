@@ -10,10 +10,10 @@ ghost use Rattle.codes.specs.Counters.{tries, spent};
 ghost use Rattle.codes.specs.Codes.{codeIn, spending, judging, presenting, accepts};
 
 // Tries left are the one bits of the counter.
-fn tries_left(counter: u8) -> u32
+pub fn tries_left(counter: u8) -> u8
     ensures { λ r. ⌜ r ≡ tries counter ⌝ }
 {
-    u8::count_ones(counter)
+    u8::count_ones(counter) as u8
 }
 
 // The counter with one try spent: its lowest one bit is cleared. A counter of 0 stays.

@@ -1,5 +1,5 @@
 // A card command: the pseudo-APDU is decided, and the order performed. Inner functions: they ask that the image is as long as the card's, and
-// that the lent tail of the answer buffer is long enough. The rules are those of `steps` and `orders`.
+// that the slot's number of protected bytes is the image's, and that the lent tail of the answer buffer is long enough. The rules are those of `steps` and `orders`.
 
 use chips::Chip;
 use orders::Told;
@@ -11,6 +11,7 @@ ghost use Prim.Native.Nat.{_≤_, _<_};
 ghost use lib.ListN.{length};
 ghost use Rattle.words.specs.Bounds.{leastTail};
 ghost use Rattle.chips.specs.Kinds.{facts};
+ghost use Rattle.counts.specs.Counts.{countIn};
 ghost use Rattle.steps.specs.Fits.{Fit, Short};
 ghost use Rattle.orders.specs.Orders.{Does, performed, commanded};
 
@@ -23,7 +24,8 @@ fn perform(
     data: &[u8],
     out: &mut [u8],
 ) -> Told
-    requires { ⌜ (leastTail ≤ length (now out)) × (length (now image) ≡ facts chip .size) × (0 < slot .page) × Fit (facts chip) (now «data») order × Short order ⌝ }
+    requires { ⌜ (leastTail ≤ length (now out)) × (length (now image) ≡ facts chip .size) × (0 < slot .page)
+        × Fit (facts chip) (now «data») order × Short order × (slot .protected ≡ countIn (facts chip) (now image)) ⌝ }
     ensures { λ r. ⌜ Does (performed (facts chip) slot (now (image .entry)) (now («data» .entry)) order) r (now (image .exit)) (now (out .entry)) (now (out .exit)) ⌝ }
 {
     match order {
@@ -42,7 +44,8 @@ fn perform(
 
 // A command: the pseudo-APDU is decided and the order performed, its data from byte 5 on lent to the handler.
 pub fn command(chip: Chip, slot: Slot, image: &mut [u8], apdu: &[u8], out: &mut [u8]) -> Told
-    requires { ⌜ (leastTail ≤ length (now out)) × (length (now image) ≡ facts chip .size) × (0 < slot .page) ⌝ }
+    requires { ⌜ (leastTail ≤ length (now out)) × (length (now image) ≡ facts chip .size) × (0 < slot .page)
+        × (slot .protected ≡ countIn (facts chip) (now image)) ⌝ }
     ensures does { λ r. ⌜ Does (commanded (facts chip) slot (now (image .entry)) (now (apdu .entry))) r (now (image .exit)) (now (out .entry)) (now (out .exit)) ⌝ }
     ensures short { λ r. ⌜ r .len ≤ 257 ⌝ }
 {

@@ -14,13 +14,15 @@ ghost use mathlib.Core.List.{List};
 ghost use Prim.Native.Nat.{ℕ, _≤_, _<_};
 ghost use lib.ListN.{length};
 ghost use Rattle.words.specs.Bounds.{leastRoom};
+ghost use Rattle.counts.specs.Counts.{protectedOf};
 ghost use Rattle.sound.specs.Sound.{imageIsCard};
 ghost use Rattle.faults.specs.Faults.{Transfer, Unsupported, typeByte, requestOf};
 ghost use Rattle.frame.specs.Exchange.{reply, Gives};
 
 // 6Fh: the pseudo-APDU goes to the card that is in.
 fn transfer(slot: Slot, image: &mut [u8], msg: &[u8], answer: &mut [u8]) -> Reply
-    requires { ⌜ (10 ≤ length (now msg)) × (leastRoom ≤ length (now answer)) × (imageIsCard (slot .holds) (now image) ≡ true) × (0 < slot .page) ⌝ }
+    requires { ⌜ (10 ≤ length (now msg)) × (leastRoom ≤ length (now answer)) × (imageIsCard (slot .holds) (now image) ≡ true) × (0 < slot .page)
+        × (slot .protected ≡ protectedOf (slot .holds) (now image)) ⌝ }
     ensures { λ r. ⌜ Gives (reply Transfer slot (now (image .entry)) (now (msg .entry))) r (now (image .exit)) (now (answer .entry)) (now (answer .exit)) ⌝ }
 {
     let fault = fault_of(0x6F, slot, msg);
@@ -47,7 +49,8 @@ fn unsupported(slot: Slot, msg: &[u8], answer: &mut [u8]) -> Reply
 
 // The handler of the type byte.
 pub fn handle(slot: Slot, image: &mut [u8], msg: &[u8], answer: &mut [u8]) -> Reply
-    requires { ⌜ (10 ≤ length (now msg)) × (leastRoom ≤ length (now answer)) × (imageIsCard (slot .holds) (now image) ≡ true) × (0 < slot .page) ⌝ }
+    requires { ⌜ (10 ≤ length (now msg)) × (leastRoom ≤ length (now answer)) × (imageIsCard (slot .holds) (now image) ≡ true) × (0 < slot .page)
+        × (slot .protected ≡ protectedOf (slot .holds) (now image)) ⌝ }
     ensures { λ r. ⌜ Gives (reply (requestOf (typeByte (now (msg .entry)))) slot (now (image .entry)) (now (msg .entry))) r (now (image .exit))
         (now (answer .entry)) (now (answer .exit)) ⌝ }
 {

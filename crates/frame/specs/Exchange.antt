@@ -17,7 +17,8 @@ use Rattle.card.specs.Images.{isCard}
 use Rattle.slot.specs.declared.Slot.{Slot}
 use Rattle.slot.specs.declared.Holds.{Holds}
 use Rattle.slot.specs.declared.Holds.the-variants.{Empty, Card}
-use Rattle.slot.specs.Slots.{occupied, inserted, powered, setAs, defaulted}
+use Rattle.slot.specs.Slots.{occupied, powered, setAs, defaulted}
+use Rattle.counts.specs.Counts.{putIn}
 use Rattle.sound.specs.Sound.{imageIsCard, sound}
 use Rattle.orders.specs.Orders.{Deed, commanded}
 use Rattle.faults.specs.declared.Fault.{Fault}
@@ -99,7 +100,7 @@ exchange s image m room =
 
 -- "Insertion tests 5, then 3"; "Insertion gives: inactive, no type, page 8, closed, image unchanged"
 unfoldable pub insertedAs : Known → Slot → List ℕ → Outcome
-insertedAs (Is chip) s image = isCard (facts chip) image ⇒ record { number = 0; answer = []; slot = inserted chip; image = image } ⁏ turnedDown Refusal.Image s image
+insertedAs (Is chip) s image = isCard (facts chip) image ⇒ record { number = 0; answer = []; slot = putIn chip image; image = image } ⁏ turnedDown Refusal.Image s image
 insertedAs Unknown s image = turnedDown Refusal.Image s image
 
 unfoldable pub insertion : Slot → ℕ → List ℕ → Outcome

@@ -20,7 +20,8 @@ use Rattle.lines.specs.Lines.{Puts}
 use Rattle.slot.specs.declared.Holds.{Holds}
 use Rattle.slot.specs.declared.Slot.{Slot}
 use Rattle.sets.specs.Sets.{defaultSet, setOf, faultAt, takes}
-use Rattle.slot.specs.Slots.{occupied, ownType, slotted, inserted, removed, powered, selecting, paged, opened, closed, setAs, defaulted}
+use Rattle.slot.specs.Slots.{occupied, ownType, slotted, inserted, removed, powered, selecting, paged, opened, closed, setAs, defaulted, triesAs, protectedAs}
+use Rattle.counts.specs.Counts.{triesOf, protectedOf}
 use Rattle.card.specs.Images.{isCard}
 use Rattle.sound.specs.Sound.{imageIsCard, sound}
 use Rattle.record.specs.declared.Reading.{Reading}
@@ -112,12 +113,12 @@ sets-is-taken-only set r r′ = value-only
 pub slot-empty-only : (r r′ : Slot) → r ≡ removed → r′ ≡ removed → r ≡ r′
 slot-empty-only r r′ = value-only
 
-pub slot-of-only : (h : Holds) (on : Bool) (type page : ℕ) (o : Bool) (set : ℕ) (r r′ : Slot) → r ≡ slotted h on type page o set → r′ ≡ slotted h on type page o set
-    → r ≡ r′
-slot-of-only h on type page o set r r′ = value-only
+pub slot-of-only : (h : Holds) (on : Bool) (type page : ℕ) (o : Bool) (set left n : ℕ) (r r′ : Slot) → r ≡ slotted h on type page o set left n
+    → r′ ≡ slotted h on type page o set left n → r ≡ r′
+slot-of-only h on type page o set left n r r′ = value-only
 
-pub slot-insert-only : (chip : Chip) (r r′ : Slot) → r ≡ inserted chip → r′ ≡ inserted chip → r ≡ r′
-slot-insert-only chip r r′ = value-only
+pub slot-insert-only : (chip : Chip) (left n : ℕ) (r r′ : Slot) → r ≡ inserted chip left n → r′ ≡ inserted chip left n → r ≡ r′
+slot-insert-only chip left n r r′ = value-only
 
 pub slot-remove-only : (r r′ : Slot) → r ≡ removed → r′ ≡ removed → r ≡ r′
 slot-remove-only r r′ = value-only
@@ -144,11 +145,25 @@ module _ (s : Slot) where
   pub slot-reset-set-only : (r r′ : Slot) → r ≡ defaulted s → r′ ≡ defaulted s → r ≡ r′
   slot-reset-set-only r r′ = value-only
 
+  pub slot-with-tries-only : (left : ℕ) (r r′ : Slot) → r ≡ triesAs left s → r′ ≡ triesAs left s → r ≡ r′
+  slot-with-tries-only left r r′ = value-only
+
+  pub slot-with-protected-only : (n : ℕ) (r r′ : Slot) → r ≡ protectedAs n s → r′ ≡ protectedAs n s → r ≡ r′
+  slot-with-protected-only n r r′ = value-only
+
   pub slot-has-card-only : (r r′ : Bool) → r ≡ occupied (s .holds) → r′ ≡ occupied (s .holds) → r ≡ r′
   slot-has-card-only r r′ = value-only
 
   pub slot-own-type-only : (r r′ : ℕ) → r ≡ ownType (s .holds) → r′ ≡ ownType (s .holds) → r ≡ r′
   slot-own-type-only r r′ = value-only
+
+-- ---- counts
+module _ (h : Holds) (image : List ℕ) where
+  pub counts-tries-of-only : (r r′ : ℕ) → r ≡ triesOf h image → r′ ≡ triesOf h image → r ≡ r′
+  counts-tries-of-only r r′ = value-only
+
+  pub counts-protected-of-only : (r r′ : ℕ) → r ≡ protectedOf h image → r′ ≡ protectedOf h image → r ≡ r′
+  counts-protected-of-only r r′ = value-only
 
 -- ---- sound
 module _ (s : Slot) (image : List ℕ) where

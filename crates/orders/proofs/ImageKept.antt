@@ -1,9 +1,9 @@
--- What an order leaves of the image: its length and the bytes that have to be 00h always, the counter unless a code is presented, and
--- being a card of its kind; while the card is closed nothing but a presented code changes a byte of a code card.
+-- What an order leaves of the image: its length and the bytes that have to be 00h always, the counter unless a code is presented, the
+-- protection bytes unless D1 protects, and being a card of its kind; while the card is closed nothing but a presented code changes a byte of a code card.
 use mathlib.Core.Path.{_≡_, refl, sym, ap, _∙_, subst⁻¹}
 use mathlib.Core.List.{List}
 use mathlib.Core.Bool.{Bool, true, false, not, true≢false}
-use mathlib.Core.Logic.{_⊎_, inl, inr}
+use mathlib.Core.Logic.{_⊎_, inl, inr, _≢_}
 use Prim.Native.Nat.{ℕ, _+_, _/_, _≤_, _<_}
 use native.Mathlib.Omega.{arith}
 use lib.ListN.{length, drop, List·getD-eq-default}
@@ -21,16 +21,18 @@ use Rattle.bits.specs.Bits.{protectionBit, isProtected}
 use Rattle.codes.proofs.CounterLaws.{spent-le}
 use Rattle.bits.proofs.ProtectionLaws.{length-protectEqual, byte-protectEqual, protected-beyond}
 use Rattle.bits.proofs.BitLaws.{bit-protectEqual, bit-same, protected-same}
-use Rattle.chips.proofs.KindLaws.{Clear, Coded, coded, Guarded, guarded, zeroed}
+use Rattle.bits.proofs.CountLaws.{count-same}
+use Rattle.chips.proofs.KindLaws.{Clear, Coded, coded, Guarded, guarded, zeroed, Bitted, bitted}
 use Rattle.card.proofs.ImageLaws.{IsCard, plain-card}
 use Rattle.slot.specs.declared.Slot.{Slot}
+use Rattle.counts.specs.Counts.{countIn}
 use Rattle.pages.proofs.PageLaws.{length-pageWrite}
 use Rattle.stores.specs.Stores.{storing}
 use Rattle.stores.proofs.StoreLaws.{length-storing, byte-outside}
 use Rattle.codes.proofs.CodeLaws.{presenting-either, length-presenting, byte-presenting, byte-spending, byte-full}
 use Rattle.steps.specs.declared.Order.{Order}
 use Rattle.steps.specs.Steps.{Ins, Select, Page, Read, Counter, Bits, Write, Protect, Present, Change, Other, place, p3, body, ordered, presents, order}
-use Rattle.orders.specs.Orders.{written, imageBy}
+use Rattle.orders.specs.Orders.{afterCode, written, imageBy}
 use Rattle.steps.proofs.Decisions.{Passed, Decided, refused, through, decided}
 use Rattle.steps.proofs.PresentAgain.{presents-is}
 use Rattle.steps.specs.Fits.{Fit}
@@ -158,6 +160,54 @@ module _ (chip : Chip) (s : Slot) (image b : List ℕ) where
           let past : f .size ≤ k = omega (arith, ltb-false (f .zeros) (f .size) l) in
           List·getD-eq-default (imageBy f s image b o) 0 {n = k} (omega (arith, length-imageBy f s image b o, long))
           ∙ sym (List·getD-eq-default image 0 {n = k} (omega (arith, long)))
+
+-- ---- the protection bytes
+-- D0, 20 and D2 leave each of them
+module _ (chip : Chip) (image b : List ℕ) (j : ℕ) (h : j < (facts chip .covered + 7) / 8) where
+  abbrev r : Facts
+  r = facts chip
+
+  guards : Bitted r
+  guards = bitted chip (omega arith)
+
+  -- n bytes from a place on that stand clear of them leave it
+  clear-of : (at n : ℕ) → Clear at n (r .covered) r → (r .bits + j < at) ⊎ (at + n ≤ r .bits + j)
+  clear-of at n (inl l) = inr (omega arith)
+  clear-of at n (inr l) = inl (omega arith)
+
+  pub guard-written : (s : Slot) (page at : ℕ) → at + length b ≤ r .memory → byte (written r page image at b) (r .bits + j) ≡ byte image (r .bits + j)
+  guard-written s page at l = byte-written r s image b (guards .pageless) page at (r .bits + j) (inr (omega (arith, l, guards .behind)))
+
+  pub guard-presented : byte (afterCode r image b) (r .bits + j) ≡ byte image (r .bits + j)
+  guard-presented = byte-presenting (r .counter) (r .full) (r .code) (r .digits) image b (r .bits + j) (λ q. go (clear-of (r .counter) 1 (guards .counter)) q)
+    where
+      go : (r .bits + j < r .counter) ⊎ (r .counter + 1 ≤ r .bits + j) → r .bits + j ≢ r .counter
+      go (inl l) q = omega arith
+      go (inr l) q = omega arith
+
+  pub guard-changed : length b ≡ r .digits → byte (sets image (r .code) b) (r .bits + j) ≡ byte image (r .bits + j)
+  guard-changed e = byte-sets image (r .code) b (r .bits + j) (go (clear-of (r .code) (r .digits) (guards .code)))
+    where
+      go : (r .bits + j < r .code) ⊎ (r .code + r .digits ≤ r .bits + j) → (r .bits + j < r .code) ⊎ (r .code + length b ≤ r .bits + j)
+      go (inl l) = inl l
+      go (inr l) = inr (omega (arith, e))
+
+-- so the number of protected bytes stays
+module _ (chip : Chip) (s : Slot) (image b : List ℕ) where
+  abbrev q : Facts
+  q = facts chip
+
+  pub count-written : (page at : ℕ) → at + length b ≤ q .memory → countIn q (written q page image at b) ≡ countIn q image
+  count-written page at l =
+      count-same (q .bits) (q .covered) image _ (length-written q s image b page at) (λ j h. guard-written chip image b j (omega arith) s page at l)
+
+  pub count-presented : countIn q (afterCode q image b) ≡ countIn q image
+  count-presented =
+      count-same (q .bits) (q .covered) image _ (length-presenting (q .counter) (q .full) (q .code) (q .digits) image b)
+      (λ j h. guard-presented chip image b j (omega arith))
+
+  pub count-changed : length b ≡ q .digits → countIn q (sets image (q .code) b) ≡ countIn q image
+  count-changed e = count-same (q .bits) (q .covered) image _ (length-sets image (q .code) b) (λ j h. guard-changed chip image b j (omega arith) e)
 
 -- ---- a card stays a card of its kind
 pub card-kept : (chip : Chip) (s : Slot) (image b : List ℕ) (o : Order) → IsCard (facts chip) image → Fit (facts chip) b o → IsCard (facts chip) (imageBy (facts chip) s image b o)

@@ -3,10 +3,9 @@
 use mathlib.Core.Path.{_≡_, refl, sym, ap, _∙_}
 use mathlib.Core.List.{List}
 use mathlib.Core.Bool.{Bool, true, false}
-use mathlib.Core.Logic.{_⊎_, inl, inr, _≢_}
+use mathlib.Core.Logic.{inl, _≢_}
 use Prim.Native.Nat.{ℕ, _+_, _/_, _≤_, _<_}
 use native.Mathlib.Omega.{arith}
-use lib.ListN.{length}
 use lib.Seq.{sets}
 use lib.Dec.{ltb}
 use borrow.Author.Tests.{ltb-true, ltb-false}
@@ -17,8 +16,8 @@ use Rattle.words.proofs.Lists.{byte-sets}
 use Rattle.chips.specs.declared.Chip.{Chip}
 use Rattle.chips.specs.declared.Facts.{Facts}
 use Rattle.chips.specs.Kinds.{facts}
-use Rattle.chips.proofs.KindLaws.{Clear, Bitted, bitted, laid}
-use Rattle.bits.specs.Bits.{carries, isProtected}
+use Rattle.chips.proofs.KindLaws.{Bitted, bitted, laid}
+use Rattle.bits.specs.Bits.{isProtected}
 use Rattle.bits.proofs.ProtectionLaws.{protected-beyond, byte-protectEqual}
 use Rattle.bits.proofs.BitLaws.{bit-same, protected-same, protected-equal, carries-before}
 use Rattle.stores.proofs.StoreLaws.{byte-passed}
@@ -30,7 +29,7 @@ use Rattle.steps.specs.Steps.{Ins, Select, Page, Read, Counter, Bits, Write, Pr
 use Rattle.steps.specs.Fits.{Fit}
 use Rattle.steps.proofs.Decisions.{Passed, Decided, refused, through, decided, fit-decided, order-fits}
 use Rattle.orders.specs.Orders.{imageBy, carriesBy}
-use Rattle.orders.proofs.ImageKept.{written-stores, byte-written}
+use Rattle.orders.proofs.ImageKept.{written-stores, guard-written, guard-presented, guard-changed}
 
 module _ (chip : Chip) (s : Slot) (image : List ℕ) (k : ℕ) where
   abbrev f : Facts
@@ -92,10 +91,9 @@ module _ (chip : Chip) (s : Slot) (image : List ℕ) (k : ℕ) where
       has-bits : Bitted f
       has-bits = bitted chip (omega arith)
 
-      -- n bytes from a place on that stand clear of the protection bytes leave its bit
-      clear-of : (at n : ℕ) → Clear at n (f .covered) f → (f .bits + k / 8 < at) ⊎ (at + n ≤ f .bits + k / 8)
-      clear-of at n (inl l) = inr (omega arith)
-      clear-of at n (inr l) = inl (omega arith)
+      -- the protection byte of its bit is one
+      guarding : k / 8 < (f .covered + 7) / 8
+      guarding = omega arith
 
       protected-order : (b : List ℕ) (o : Order) → Fit f b o → guarded (imageBy f s image b o) ≡ (guarded image or carriesBy image b k o)
       unfolding imageBy
@@ -105,22 +103,11 @@ module _ (chip : Chip) (s : Slot) (image : List ℕ) (k : ℕ) where
       protected-order b (Order.Read at n) w = sym (or-end _)
       protected-order b (Order.Counter n) w = sym (or-end _)
       protected-order b (Order.Bits at n) w = sym (or-end _)
-      protected-order b (Order.Write at) w =
-          bit-stays _ (byte-written f s image b (has-bits .pageless) (s .page) at (f .bits + k / 8) (inr (omega (arith, w .0, has-bits .behind))))
+      protected-order b (Order.Write at) w = bit-stays _ (guard-written chip image b (k / 8) guarding s (s .page) at (w .0))
       protected-order b (Order.Protect at) w =
           protected-equal (f .bits) (f .covered) k h (omega (arith, laid chip .kept, has-bits .behind)) image at b (omega (arith, laid chip .guards, c .long))
-      protected-order b Order.Present w =
-          bit-stays _ (byte-presenting (f .counter) (f .full) (f .code) (f .digits) image b (f .bits + k / 8) (λ q. go (clear-of (f .counter) 1 (has-bits .counter)) q))
-        where
-          go : (f .bits + k / 8 < f .counter) ⊎ (f .counter + 1 ≤ f .bits + k / 8) → f .bits + k / 8 ≢ f .counter
-          go (inl l) q = omega arith
-          go (inr l) q = omega arith
-      protected-order b Order.Change w =
-          bit-stays (sets image (f .code) b) (byte-sets image (f .code) b (f .bits + k / 8) (go (clear-of (f .code) (f .digits) (has-bits .code))))
-        where
-          go : (f .bits + k / 8 < f .code) ⊎ (f .code + f .digits ≤ f .bits + k / 8) → (f .bits + k / 8 < f .code) ⊎ (f .code + length b ≤ f .bits + k / 8)
-          go (inl l) = inl l
-          go (inr l) = inr (omega (arith, w .1))
+      protected-order b Order.Present w = bit-stays _ (guard-presented chip image b (k / 8) guarding)
+      protected-order b Order.Change w = bit-stays (sets image (f .code) b) (guard-changed chip image b (k / 8) guarding (w .1))
 
     -- a byte without a bit is never protected, and no D1 reaches it
     carries-none : f .covered ≤ k → (b : List ℕ) (o : Order) → Fit f b o → carriesBy image b k o ≡ false

@@ -10,7 +10,8 @@ use Rattle.words.specs.Bytes.{byte, over}
 use Rattle.chips.specs.declared.Facts.{Facts}
 use Rattle.bits.specs.Bits.{carries, protectEqual, packedBytes}
 use Rattle.slot.specs.declared.Slot.{Slot}
-use Rattle.slot.specs.Slots.{selecting, paged, opened, closed}
+use Rattle.slot.specs.Slots.{selecting, paged, opened, closed, triesAs, protectedAs}
+use Rattle.counts.specs.Counts.{triesIn, countIn}
 use Rattle.reads.specs.Reads.{bytesRead, counterRead}
 use Rattle.pages.specs.Pages.{pageWrite}
 use Rattle.stores.specs.Stores.{storing, endsEqual}
@@ -77,7 +78,7 @@ imageBy f s image b (Order.Protect at) = protectEqual (f .bits) (f .covered) ima
 imageBy f s image b Order.Present = afterCode f image b
 imageBy f s image b Order.Change = sets image (f .code) b
 
--- and what the slot record becomes
+-- and what the slot record becomes; 02: "have .. code presentation and D1 keep them true", tries left and number of protected bytes
 unfoldable pub slotBy : Facts → Slot → List ℕ → List ℕ → Order → Slot
 slotBy f s image b (Order.Refuse status) = s
 slotBy f s image b Order.Select = selecting (f .selects) s
@@ -86,8 +87,8 @@ slotBy f s image b (Order.Read at n) = s
 slotBy f s image b (Order.Counter n) = s
 slotBy f s image b (Order.Bits at n) = s
 slotBy f s image b (Order.Write at) = s
-slotBy f s image b (Order.Protect at) = s
-slotBy f s image b Order.Present = rightCode f image b ⇒ opened s ⁏ closed s
+slotBy f s image b (Order.Protect at) = protectedAs (countIn f (protectEqual (f .bits) (f .covered) image at b)) s
+slotBy f s image b Order.Present = let counted = triesAs (triesIn f (afterCode f image b)) s in rightCode f image b ⇒ opened counted ⁏ closed counted
 slotBy f s image b Order.Change = s
 
 unfoldable pub performed : Facts → Slot → List ℕ → List ℕ → Order → Deed

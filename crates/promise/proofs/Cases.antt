@@ -17,7 +17,8 @@ use Rattle.slot.specs.declared.Slot.{Slot}
 use Rattle.frame.specs.Exchange.{Outcome, insertion}
 use Rattle.reader.specs.Runs.{Sent, sending, run}
 use Rattle.reader.proofs.Kept.{exchange-holds}
-use Rattle.promise.specs.Tries.{Event, none, wrong, right, eventOf, history, after, wrongs, renewed, triesIn, PutIn, runFrom, Sentence, sinceItCame, sinceRight}
+use Rattle.promise.specs.Tries.{Event, none, wrong, right, eventOf, history, after, wrongs, renewed, PutIn, runFrom, Sentence, sinceItCame, sinceRight}
+use Rattle.counts.specs.Counts.{triesIn}
 use Rattle.promise.proofs.Inserted.{put-slot}
 use Rattle.promise.proofs.Tries.{message-tries}
 

@@ -29,7 +29,8 @@ use Rattle.reader.specs.Proper.{Proper}
 use Rattle.reader.specs.Heard.{requested, faulted, heard, transfers, reached}
 use Rattle.reader.proofs.Came.{obeyed, Came, down, failed, came, heard-proper, heard-clear}
 use Rattle.reader.proofs.Kept.{exchange-holds, proper-kept}
-use Rattle.promise.specs.Tries.{none, wrong, rightNow, eventOf, after, triesIn}
+use Rattle.promise.specs.Tries.{none, wrong, rightNow, eventOf, after}
+use Rattle.counts.specs.Counts.{triesIn}
 use Rattle.promise.proofs.Reached.{transfers-is, reached-does, unreached-keeps, unreached-none, none-unreached, reached-event, wrong-reached}
 use Rattle.promise.proofs.Tries.{message-tries}
 

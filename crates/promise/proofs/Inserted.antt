@@ -8,7 +8,7 @@ use Rattle.chips.specs.declared.Known.the-variants.{Is}
 use Rattle.chips.specs.Kinds.{facts, chipOf}
 use Rattle.slot.specs.declared.Holds.the-variants.{Empty}
 use Rattle.slot.specs.declared.Slot.{Slot}
-use Rattle.slot.specs.Slots.{inserted}
+use Rattle.counts.specs.Counts.{putIn}
 use Rattle.card.specs.Images.{isCard}
 use Rattle.frame.specs.Exchange.{insertion}
 use Rattle.reader.proofs.Insertions.{Accepted, insertion-inserts, accepts-card}
@@ -19,10 +19,14 @@ module _ (chip : Chip) (s : Slot) (kind : ℕ) (image : List ℕ) where
   same-chip : (c : Chip) → chipOf kind ≡ Is chip → chipOf kind ≡ Is c → c ≡ chip
   same-chip c e h = cc
 
-  pub put-slot : PutIn chip s kind image → insertion s kind image .slot ≡ inserted chip
-  put-slot p =
-      let a : Accepted s kind image (insertion s kind image) = insertion-inserts s kind image .accepted (p .accepted) in
-      a .slot ∙ ap inserted (same-chip (a .chip) (p .known) (a .known))
+  -- a card of any kind, with or without a code
+  pub put-in-slot : chipOf kind ≡ Is chip → insertion s kind image .number ≡ 0 → insertion s kind image .slot ≡ putIn chip image
+  put-in-slot known e =
+      let a : Accepted s kind image (insertion s kind image) = insertion-inserts s kind image .accepted e in
+      a .slot ∙ ap (λ (c : Chip). putIn c image) (same-chip (a .chip) known (a .known))
+
+  pub put-slot : PutIn chip s kind image → insertion s kind image .slot ≡ putIn chip image
+  put-slot p = put-in-slot (p .known) (p .accepted)
 
   pub put-image : insertion s kind image .image ≡ image
   put-image = insertion-inserts s kind image .same

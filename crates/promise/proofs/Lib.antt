@@ -17,3 +17,5 @@ pub mod Plain
 pub mod Guarded
 pub mod Stored
 pub mod Wrote
+pub mod Counted
+pub mod Screens

@@ -168,7 +168,7 @@ abbrev pub getSet : Sent
 getSet = record { message = 0x6C ∷ 0 ∷ 0 ∷ 0 ∷ 0 ∷ 0 ∷ 6 ∷ 0 ∷ 0 ∷ 0 ∷ []; room = leastRoom }
 
 abbrev pub cameIn : Slot
-cameIn = inserted Sle4442
+cameIn = inserted Sle4442 3 0
 
 abbrev pub afterwards : Run
 afterwards = run (sending cameIn (image4442 0x07) setT1 .slot) (sending cameIn (image4442 0x07) setT1 .image) between

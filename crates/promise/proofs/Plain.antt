@@ -13,7 +13,7 @@ use Rattle.chips.specs.Kinds.{facts, chipOf}
 use Rattle.slot.specs.declared.Holds.{Holds}
 use Rattle.slot.specs.declared.Holds.the-variants.{Card}
 use Rattle.slot.specs.declared.Slot.{Slot}
-use Rattle.slot.specs.Slots.{inserted}
+use Rattle.counts.specs.Counts.{putIn}
 use Rattle.card.specs.Images.{isCard}
 use Rattle.card.proofs.ImageLaws.{IsCard, card-parts}
 use Rattle.sound.specs.Sound.{fullCode, sound}
@@ -38,7 +38,7 @@ use Rattle.promise.proofs.Sequences.{called-run, sat-run}
 
 -- ---- a card of a kind just inserted
 record Seated (chip : Chip) (image : List ℕ) (o : Outcome) : Type 0 where
-  slot : o .slot ≡ inserted chip
+  slot : o .slot ≡ putIn chip image
   same : o .image ≡ image
   card : IsCard (facts chip) image
 
@@ -47,7 +47,7 @@ seated chip s kind image known e =
     let i = insertion-inserts s kind image in
     let a : Accepted s kind image (insertion s kind image) = i .accepted e in
     let q : a .chip ≡ chip = same (a .chip) (a .known) in
-    record { slot = a .slot ∙ ap inserted q; same = i .same; card = card-parts (facts chip) image (ap (λ (c : Chip). isCard (facts c) image) (sym q) ∙ a .card) }
+    record { slot = a .slot ∙ ap (λ (c : Chip). putIn c image) q; same = i .same; card = card-parts (facts chip) image (ap (λ (c : Chip). isCard (facts c) image) (sym q) ∙ a .card) }
   where
     same : (c : Chip) → chipOf kind ≡ Is c → c ≡ chip
     same c h = cc

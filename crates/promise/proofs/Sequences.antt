@@ -32,7 +32,8 @@ use Rattle.sitting.specs.declared.Done.{Done}
 use Rattle.sitting.specs.Sittings.{outcomeOf, holding, Leaves}
 use Rattle.sitting.proofs.Holding.{held-is}
 use Rattle.vectors.specs.Sessions.{lent}
-use Rattle.promise.specs.Tries.{triesIn, PutIn, runFrom, Sentence}
+use Rattle.promise.specs.Tries.{PutIn, runFrom, Sentence}
+use Rattle.counts.specs.Counts.{triesIn}
 use Rattle.promise.specs.Sequences.{sentWith, Called, hung, called, Sat, stood, sat, SomeCalls, SomeSitting}
 use Rattle.promise.proofs.Zero.{zero-kept}
 use Rattle.promise.proofs.Cases.{sentence-holds}

@@ -25,7 +25,8 @@ use Rattle.reader.specs.Runs.{Sent, sending, run}
 use Rattle.reader.specs.Heard.{reached}
 use Rattle.reader.proofs.Came.{heard-proper}
 use Rattle.reader.proofs.Kept.{proper-card, exchange-holds}
-use Rattle.promise.specs.Tries.{Event, wrong, right, rightNow, eventOf, history, after, triesAfter, triesLeft, triesIn, PutIn, runFrom, historyFrom}
+use Rattle.promise.specs.Tries.{Event, wrong, right, rightNow, eventOf, history, after, triesAfter, triesLeft, PutIn, runFrom, historyFrom}
+use Rattle.counts.specs.Counts.{triesIn}
 use Rattle.promise.proofs.Reached.{reached-does, unreached-keeps, unreached-none, reached-event}
 use Rattle.promise.proofs.Inserted.{put-slot, put-image}
 use Rattle.promise.proofs.Accounts.{fold-is-account}

@@ -24,8 +24,9 @@ use Rattle.calls.specs.Calls.{RawOutcome, keeping, rawInsertion, Returns}
 use Rattle.sitting.specs.declared.Held.{Held}
 use Rattle.sitting.specs.declared.Done.{Done}
 use Rattle.sitting.specs.Sittings.{outcomeOf, holding, Leaves}
-use Rattle.vectors.specs.Sessions.{lent, selectedSlot, image4442, image4428, transfer, success, wrong4442}
-use Rattle.promise.specs.Tries.{wrong, rightNow, eventOf, history, wrongs, left, account, triesLeft, triesIn, PutIn, runFrom}
+use Rattle.vectors.specs.Sessions.{lent, recounted, selectedSlot, image4442, image4428, transfer, success, wrong4442}
+use Rattle.promise.specs.Tries.{wrong, rightNow, eventOf, history, wrongs, left, account, triesLeft, PutIn, runFrom}
+use Rattle.counts.specs.Counts.{triesIn}
 use Rattle.promise.specs.Visits.{sameEvents, asSaid, unlike, with4442, with4428, visits, powerOn, select, readCounter, thief4442}
 use Rattle.promise.proofs.Zero.{zero-remains}
 use Rattle.promise.specs.Sequences.{Called, Sat}
@@ -51,21 +52,21 @@ put4428 = record { coded = refl; known = refl; accepted = refl }
 
 -- every row of the table
 pub visits-hold : unlike 1 visits ≡ 0
-unfolding rules ones heard reached rightNow eventOf history wrongs left account triesLeft lent image4442 image4428 transfer sameEvents asSaid unlike
+unfolding rules heard reached rightNow eventOf history wrongs left account triesLeft lent image4442 image4428 transfer sameEvents asSaid unlike
     with4442 with4428 visits
 visits-hold = refl
 
 -- after three wrong codes not a byte changes any more
 pub thief-zero : triesIn (facts Sle4442) (runFrom removed 30 (image4442 0x07) (lent thief4442) .image) ≡ 0
-unfolding rules image4442 lent transfer ones
+unfolding rules image4442 lent transfer
 thief-zero = refl
 
 pub spent-for-good : (ns : List Sent) → runFrom removed 30 (image4442 0x07) (lent thief4442 ++ ns) .image ≡ runFrom removed 30 (image4442 0x07) (lent thief4442) .image
 spent-for-good ns = zero-remains Sle4442 removed 30 (image4442 0x07) put4442 (lent thief4442) ns thief-zero
 
 -- the first of two equal wrong codes is one that reaches the card: the hypothesis of `equal-codes-cost-two` is met
-pub wrong-reaches : eventOf (facts Sle4442) (selectedSlot Sle4442) (image4442 0x07) (record { message = wrong4442; room = leastRoom }) ≡ wrong
-unfolding rules image4442 selectedSlot transfer heard reached rightNow eventOf
+pub wrong-reaches : eventOf (facts Sle4442) (recounted (image4442 0x07) (selectedSlot Sle4442)) (image4442 0x07) (record { message = wrong4442; room = leastRoom }) ≡ wrong
+unfolding rules image4442 recounted selectedSlot transfer heard reached rightNow eventOf
 wrong-reaches = refl
 
 -- two wrong codes, then B1: the hypotheses of `counter-told` are met, and the counter that it tells is the one that the codes left
@@ -93,11 +94,11 @@ known4442 = refl
 abbrev pub putCalled : RawOutcome
 putCalled = rawInsertion (rawOf removed) 30 (image4442 0x07)
 
-pub call-put4442 : Returns putCalled (pos 0) (rawOf (inserted Sle4442)) (image4442 0x07) [] []
+pub call-put4442 : Returns putCalled (pos 0) (rawOf (inserted Sle4442 3 0)) (image4442 0x07) [] []
 unfolding rules rawOf rawInsertion keeping image4442
 call-put4442 = record { result = refl; raw = refl; image = refl; buffer = refl }
 
-pub thief-called : {r image : List ℕ} → Called (rawOf (inserted Sle4442)) (image4442 0x07) (lent thief4442) r image → triesIn (facts Sle4442) image ≡ 0
+pub thief-called : {r image : List ℕ} → Called (rawOf (inserted Sle4442 3 0)) (image4442 0x07) (lent thief4442) r image → triesIn (facts Sle4442) image ≡ 0
 thief-called later =
     ap (triesIn (facts Sle4442)) (calls-run Sle4442 refl 30 known4442 (rawOf removed) (image4442 0x07) call-put4442 later .1) ∙ thief-zero
 
@@ -106,7 +107,7 @@ abbrev pub startHeld : Held
 startHeld = record { slot = removed; size = 0 }
 
 abbrev pub putSat : Done
-putSat = record { number = 0; len = 0; held = record { slot = inserted Sle4442; size = 264 } }
+putSat = record { number = 0; len = 0; held = record { slot = inserted Sle4442 3 0; size = 264 } }
 
 pub record-put4442 : Leaves (outcomeOf Mark.Insert (30 ∷ image4442 0x07) removed [] leastRoom) putSat [] (image4442 0x07) [] []
 unfolding rules outcomeOf holding image4442

@@ -30,7 +30,8 @@ use Rattle.reader.specs.Proper.{Proper}
 use Rattle.reader.specs.Heard.{requested}
 use Rattle.reader.proofs.Came.{obeyed, Came, down, failed, came, heard-proper}
 use Rattle.reader.proofs.Kept.{proper-card, exchange-holds}
-use Rattle.promise.specs.Tries.{triesIn, PutIn, runFrom}
+use Rattle.promise.specs.Tries.{PutIn, runFrom}
+use Rattle.counts.specs.Counts.{triesIn}
 use Rattle.promise.proofs.RunLaws.{run-holds, run-append}
 use Rattle.promise.proofs.Inserted.{put-slot}
 

@@ -9,7 +9,8 @@ use Rattle.words.specs.Bytes.{byte}
 use Rattle.chips.specs.declared.Chip.{Chip}
 use Rattle.chips.specs.declared.Chip.the-variants.{I2c1, Sle4428, Sle4418, Sle4442, Sle4432}
 use Rattle.chips.specs.Kinds.{facts}
-use Rattle.slot.specs.Slots.{removed, inserted}
+use Rattle.slot.specs.Slots.{removed}
+use Rattle.counts.specs.Counts.{putIn}
 use Rattle.frame.specs.Exchange.{insertion}
 use Rattle.vectors.specs.Sessions.{lent, image4442, image4428, right4442}
 use Rattle.vectors.specs.Plain.{image4418, image4432, command}
@@ -34,7 +35,7 @@ asGuarded v =
     let now = runFrom removed (f .kind) (v .image) ms .image in
     insertion removed (f .kind) (v .image) .number is 0
     and Bool·beq (protectedIn f (v .image) (v .at)) (v .came)
-    and Bool·beq (someProtects f (inserted (v .chip)) (v .image) ms (v .at)) (v .carried)
+    and Bool·beq (someProtects f (putIn (v .chip) (v .image)) (v .image) ms (v .at)) (v .carried)
     and Bool·beq (protectedIn f now (v .at)) (v .came or v .carried)
     and byte now (v .at) is v .value
 

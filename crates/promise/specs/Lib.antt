@@ -5,3 +5,5 @@ pub mod Parameters
 pub mod Protected
 pub mod Guarded
 pub mod Stored
+pub mod Counted
+pub mod Screens

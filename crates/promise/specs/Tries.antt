@@ -11,7 +11,7 @@ use mathlib.Core.Bool.{Bool, true, false}
 use mathlib.Core.List.{List, [], _∷_, _++_}
 use Rattle.words.specs.Choice.{_and_, _⇒_⁏_, _or_, _is_, _isnt_}
 use Rattle.words.specs.Bounds.{leastRoom}
-use Rattle.words.specs.Bytes.{byte, same}
+use Rattle.words.specs.Bytes.{same}
 use Rattle.codes.specs.Counters.{tries}
 use Rattle.codes.specs.Codes.{codeIn}
 use Rattle.chips.specs.declared.Chip.{Chip}
@@ -19,6 +19,7 @@ use Rattle.chips.specs.declared.Known.the-variants.{Is}
 use Rattle.chips.specs.declared.Facts.{Facts}
 use Rattle.chips.specs.Kinds.{facts, chipOf}
 use Rattle.slot.specs.declared.Slot.{Slot}
+use Rattle.counts.specs.Counts.{triesIn}
 use Rattle.steps.specs.Steps.{body}
 use Rattle.faults.specs.Faults.{isClear, apdu}
 use Rattle.frame.specs.Exchange.{insertion}
@@ -105,11 +106,7 @@ renewed t (none ∷ es) = renewed t es
 renewed t (wrong ∷ es) = renewed (t - 1) es
 renewed t (right ∷ es) = t isnt 0 or renewed t es
 
--- ---- the card in the slot
--- "Tries left are the one bits of the counter", in the image of a card
-abbrev pub triesIn : Facts → List ℕ → ℕ
-triesIn f image = tries (byte image (f .counter))
-
+-- ---- the card in the slot; tries left are `triesIn` its image
 -- "a code card just inserted": the slot was lent this kind and this image, and the insertion was accepted
 pub record PutIn (chip : Chip) (s : Slot) (kind : ℕ) (image : List ℕ) : Type 0 where
   pub coded : facts chip .coded ≡ true

@@ -11,7 +11,8 @@ use Rattle.chips.specs.Kinds.{facts}
 use Rattle.slot.specs.Slots.{removed}
 use Rattle.frame.specs.Exchange.{insertion}
 use Rattle.vectors.specs.Sessions.{lent, transfer, image4442, image4428, wrong4442, right4442}
-use Rattle.promise.specs.Tries.{Event, none, wrong, right, triesLeft, triesIn, runFrom, historyFrom}
+use Rattle.promise.specs.Tries.{Event, none, wrong, right, triesLeft, runFrom, historyFrom}
+use Rattle.counts.specs.Counts.{triesIn}
 
 pub record Visit : Type 0 where
   pub chip : Chip

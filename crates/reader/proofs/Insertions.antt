@@ -13,7 +13,8 @@ use Rattle.card.specs.Images.{isCard}
 use Rattle.slot.specs.declared.Holds.{Holds}
 use Rattle.slot.specs.declared.Holds.the-variants.{Empty, Card}
 use Rattle.slot.specs.declared.Slot.{Slot}
-use Rattle.slot.specs.Slots.{occupied, inserted}
+use Rattle.slot.specs.Slots.{occupied}
+use Rattle.counts.specs.Counts.{putIn}
 use Rattle.frame.specs.Exchange.{Outcome, insertedAs, insertion}
 
 -- an insertion that is accepted: the slot was empty, the kind is a chip's and the image one of its cards, and then the card is in
@@ -22,7 +23,7 @@ pub record Accepted (s : Slot) (kind : ℕ) (image : List ℕ) (o : Outcome) : T
   pub known : chipOf kind ≡ Is chip
   pub empty : s .holds ≡ Empty
   pub card : isCard (facts chip) image ≡ true
-  pub slot : o .slot ≡ inserted chip
+  pub slot : o .slot ≡ putIn chip image
 
 -- every insertion answers nothing and leaves the image, and its number is one of the table's
 pub record Inserts (s : Slot) (kind : ℕ) (image : List ℕ) (o : Outcome) : Type 0 where

@@ -17,7 +17,8 @@ use Rattle.card.proofs.ImageLaws.{IsCard, card-parts, card-whole}
 use Rattle.slot.specs.declared.Holds.{Holds}
 use Rattle.slot.specs.declared.Holds.the-variants.{Empty, Card}
 use Rattle.slot.specs.declared.Slot.{Slot}
-use Rattle.slot.specs.Slots.{inserted, removed, powered}
+use Rattle.slot.specs.Slots.{removed, powered}
+use Rattle.counts.specs.Counts.{putIn}
 use Rattle.sound.specs.Sound.{imageIsCard, sound}
 use Rattle.sound.proofs.SoundLaws.{Sound, sound-parts, sound-whole, on-sound, off-sound, set-sound, defaulted-sound, inserted-sound, removed-sound}
 use Rattle.steps.specs.Steps.{order, body}
@@ -146,7 +147,7 @@ insertion-proper s kind image e =
     let i : Inserts s kind image (insertion s kind image) = insertion-inserts s kind image in
     let a : Accepted s kind image (insertion s kind image) = i .accepted e in
     subst⁻¹ (λ (t : Slot). Proper t (insertion s kind image .image)) (a .slot)
-    (subst⁻¹ (Proper (inserted (a .chip))) (i .same) (record { card = a .card; sound = inserted-sound image (a .chip) }))
+    (subst⁻¹ (Proper (putIn (a .chip) image)) (i .same) (record { card = a .card; sound = inserted-sound image (a .chip) }))
 
 -- A removal leaves a sound slot, beside every image.
 pub removed-proper : (image : List ℕ) → Proper removed image

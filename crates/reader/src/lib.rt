@@ -5,6 +5,7 @@ use chips::Known;
 use frame::Refusal;
 use frame::Reply;
 use frame::Verdict;
+use slot::Holds;
 use slot::Slot;
 ghost use mathlib.Core.Path.{_≡_};
 ghost use mathlib.Core.List.{[]};
@@ -71,7 +72,7 @@ pub fn message(slot: Slot, image: &mut [u8], msg: &[u8], answer: &mut [u8]) -> R
     }
 }
 
-// A card is put in: turned down where one is in, or where the image is no card of that kind.
+// A card is put in: turned down where one is in, or where the image is no card of that kind. Tries left and protected bytes are the image's.
 pub fn insert(slot: Slot, kind: u8, image: &[u8]) -> Reply
     ensures { λ r. ⌜ Gives (insertion slot kind (now (image .entry))) r (now (image .entry)) [] [] ⌝ }
 {
@@ -85,7 +86,12 @@ pub fn insert(slot: Slot, kind: u8, image: &[u8]) -> Reply
     if !card::is_card(chip, image) {
         return turn_down(Refusal::Image, slot);
     }
-    let next = slot.insert(chip);
+    let holds = Holds::Card(chip);
+    let next = slot.insert(
+        chip,
+        counts::tries_of(holds, image),
+        counts::protected_of(holds, image),
+    );
     Reply {
         verdict: Verdict::Answered(0),
         slot: next,

@@ -51,16 +51,13 @@ eight-zero l k h e = and-holds (eq-eqb (eightAt l k) 0 e) refl ∙ sym (blank-ei
 pub eight-more : (l : List ℕ) (k : ℕ) → k + 8 ≤ length l → (eightAt l k ≡ 0 → ⊥) → false ≡ blank (drop k l)
 eight-more l k h e = and-fails (blank (drop (k + 8) l)) (ne-eqb (eightAt l k) 0 e) ∙ sym (blank-eight l k h)
 
--- the last four of 32 bytes, the first of which was seen to be 00h
-pub blank-last : (l : List ℕ) → length l ≡ 32 → eightAt l 21 ≡ 0 → fourAt l 28 is 0 ≡ blank (drop 29 l)
-unfolding blank eightAt fourAt
-blank-last l e z =
-    let p : byte l 28 ≡ 0 = omega arith in
-    sym (and-end (fourAt l 28 is 0))
-    ∙ sym (ap (λ (x : List ℕ). fourAt l 28 is 0 and blank x) (drop-of-length-le l {i = 32} (omega arith)))
-    ∙ sym (blank-four l 28 (omega arith))
-    ∙ blank-step l 28 29 refl (omega arith)
-    ∙ sym (and-holds (eq-eqb (byte l 28) 0 p) refl)
+-- the last eight of 32 bytes
+pub blank-last : (l : List ℕ) → length l ≡ 32 → eightAt l 24 is 0 ≡ blank (drop 24 l)
+unfolding blank
+blank-last l e =
+    sym (and-end (eightAt l 24 is 0))
+    ∙ sym (ap (λ (x : List ℕ). eightAt l 24 is 0 and blank x) (drop-of-length-le l {i = 32} (omega arith)))
+    ∙ sym (blank-eight l 24 (omega arith))
 
 -- ---- a record that was found
 -- what a reading says
@@ -85,7 +82,7 @@ pub record Made (h : Holds) (r : List ℕ) (s : Slot) : Type 0 where
   pub long : length r ≡ 32
   pub on : byte r 1 ≤ 1
   pub unlocked : byte r 4 ≤ 1
-  pub rest : blank (drop 13 r) ≡ true
+  pub rest : blank (drop 16 r) ≡ true
   pub said : slotFrom h r ≡ s
 
 pub found-with : (h : Holds) (r : List ℕ) (s : Slot) → slotWith h r ≡ Reading.Found s → Made h r s
@@ -95,7 +92,7 @@ found-with h r s =
     either P (length r isnt 32) (λ _. broken-found) (λ a.
     either P (ltb 1 (byte r 1)) (λ _. broken-found) (λ b.
     either P (ltb 1 (byte r 4)) (λ _. broken-found) (λ c.
-    either P (not (blank (drop 13 r))) (λ _. broken-found) (λ d e.
+    either P (not (blank (drop 16 r))) (λ _. broken-found) (λ d e.
     record {
       long = eqb-true _ _ (not-false _ a);
       on = ltb-false 1 (byte r 1) b;
@@ -105,38 +102,38 @@ found-with h r s =
     }))))
 
 -- ---- what is written
--- kind, bytes 1 to 12 and the rest, stored one behind the other, are the record
-pub record-written : (r : List ℕ) (s : Slot) (k : ℕ) → length r ≡ 32 → k ≡ kindOf (s .holds) → sets (sets (set r 0 k) 1 (stateOf s)) 13 (replicate 19 0) ≡ rawOf s
+-- kind, bytes 1 to 15 and the rest, stored one behind the other, are the record
+pub record-written : (r : List ℕ) (s : Slot) (k : ℕ) → length r ≡ 32 → k ≡ kindOf (s .holds) → sets (sets (set r 0 k) 1 (stateOf s)) 16 (replicate 16 0) ≡ rawOf s
 unfolding rawOf lowFirst
 record-written r s k e h =
-    let w : ℕ → List ℕ = λ x. x ∷ stateOf s ++ replicate 19 0 in
+    let w : ℕ → List ℕ = λ x. x ∷ stateOf s ++ replicate 16 0 in
     sets-eq (w k) r 0 (omega arith)
     ∙ ap (λ (t : List ℕ). w k ++ t) (drop-of-length-le r {i = 32} (omega arith))
     ∙ append-nil (w k)
     ∙ ap w h
 
--- 19 bytes of rest make 32
-pub rest-long : (r : List ℕ) → drop 13 r ≡ replicate 19 0 → length r ≡ 32
+-- 16 bytes of rest make 32
+pub rest-long : (r : List ℕ) → drop 16 r ≡ replicate 16 0 → length r ≡ 32
 rest-long r e =
-    let p : length (drop 13 r) ≡ 19 = ap length e in
-    omega (arith, p, length-drop 13 r)
+    let p : length (drop 16 r) ≡ 16 = ap length e in
+    omega (arith, p, length-drop 16 r)
 
--- bytes 1 to 12 make it the record of a slot, where the kind is the slot's already and the rest 00h
-pub state-written : (r : List ℕ) (s : Slot) → byte r 0 ≡ kindOf (s .holds) → drop 13 r ≡ replicate 19 0 → sets r 1 (stateOf s) ≡ rawOf s
+-- bytes 1 to 15 make it the record of a slot, where the kind is the slot's already and the rest 00h
+pub state-written : (r : List ℕ) (s : Slot) → byte r 0 ≡ kindOf (s .holds) → drop 16 r ≡ replicate 16 0 → sets r 1 (stateOf s) ≡ rawOf s
 unfolding rawOf lowFirst
 state-written [] s k e = absurd (omega (arith, rest-long [] e))
 state-written (a ∷ r) s k e =
     sets-eq (stateOf s) (a ∷ r) 1 (omega (arith, rest-long (a ∷ r) e))
     ∙ ap (λ (t : List ℕ). a ∷ stateOf s ++ t) e
-    ∙ ap (λ (x : ℕ). x ∷ stateOf s ++ replicate 19 0) k
+    ∙ ap (λ (x : ℕ). x ∷ stateOf s ++ replicate 16 0) k
 
 -- a loop that makes the rest 00h: one turn
-pub rest-more : (r : List ℕ) (i : ℕ) → 13 ≤ i → set (sets r 13 (replicate (i - 13) 0)) i 0 ≡ sets r 13 (replicate (i + 1 - 13) 0)
+pub rest-more : (r : List ℕ) (i : ℕ) → 16 ≤ i → set (sets r 16 (replicate (i - 16) 0)) i 0 ≡ sets r 16 (replicate (i + 1 - 16) 0)
 rest-more r i h =
-    let z : List ℕ = replicate (i - 13) 0 in
-    let p : 13 + length z ≡ i = omega (arith, length-replicate {A = ℕ} (i - 13) 0) in
-    let q : i - 13 + 1 ≡ i + 1 - 13 = omega arith in
-    ap (λ (k : ℕ). set (sets r 13 z) k 0) (sym p)
-    ∙ sym (sets-snoc r 13 z 0)
-    ∙ ap (sets r 13) (replicate-append-replicate {A = ℕ} (i - 13) 1 0)
-    ∙ ap (λ (n : ℕ). sets r 13 (replicate n 0)) q
+    let z : List ℕ = replicate (i - 16) 0 in
+    let p : 16 + length z ≡ i = omega (arith, length-replicate {A = ℕ} (i - 16) 0) in
+    let q : i - 16 + 1 ≡ i + 1 - 16 = omega arith in
+    ap (λ (k : ℕ). set (sets r 16 z) k 0) (sym p)
+    ∙ sym (sets-snoc r 16 z 0)
+    ∙ ap (sets r 16) (replicate-append-replicate {A = ℕ} (i - 16) 1 0)
+    ∙ ap (λ (n : ℕ). sets r 16 (replicate n 0)) q

@@ -1,5 +1,5 @@
 -- The raw slot record, 32 bytes: what is written, and what any bytes are read as.
-use Prim.Native.Nat.{ℕ}
+use Prim.Native.Nat.{ℕ, _+_, _*_}
 use mathlib.Core.Bool.{Bool, true, false, not}
 use mathlib.Core.List.{List, _∷_, _++_}
 use lib.ListN.{length, drop, replicate}
@@ -26,17 +26,18 @@ abbrev pub flagOf : Bool → ℕ
 flagOf true = 1
 flagOf false = 0
 
--- what of a slot a message may change: "active, selected type, reader page, open", and the parameters: protocol number, then seven bytes
+-- what of a slot a message may change: "active, selected type, reader page, open", the parameters: protocol number, then seven bytes; tries left,
+-- and the number of protected bytes, low first
 abbrev pub stateOf : Slot → List ℕ
-stateOf s = flagOf (s .active) ∷ s .selected ∷ s .page ∷ flagOf (s .«open») ∷ lowFirst 7 (s .set)
+stateOf s = flagOf (s .active) ∷ s .selected ∷ s .page ∷ flagOf (s .«open») ∷ lowFirst 7 (s .set) ++ (s .tries ∷ lowFirst 1 (s .protected))
 
--- "kind, active, selected type, reader page, open", the parameters, "the rest 00h"
+-- "kind, active, selected type, reader page, open", the parameters, the two counts, "the rest 00h"
 unfoldable pub rawOf : Slot → List ℕ
-rawOf s = kindOf (s .holds) ∷ stateOf s ++ replicate 19 0
+rawOf s = kindOf (s .holds) ∷ stateOf s ++ replicate 16 0
 
 -- ---- what is read
 abbrev pub slotFrom : Holds → List ℕ → Slot
-slotFrom h r = slotted h (byte r 1 is 1) (byte r 2) (byte r 3) (byte r 4 is 1) (eightAt r 5)
+slotFrom h r = slotted h (byte r 1 is 1) (byte r 2) (byte r 3) (byte r 4 is 1) (eightAt r 5) (byte r 13) (byte r 14 + 256 * byte r 15)
 
 -- "A record of another length, a byte where only 0 or 1 may stand, a rest byte not 00h": broken. What it holds is told by the kind byte.
 unfoldable pub slotWith : Holds → List ℕ → Reading
@@ -44,7 +45,7 @@ slotWith h r =
     length r isnt 32 ⇒ Reading.Broken h
     ⁏ ltb 1 (byte r 1) ⇒ Reading.Broken h
     ⁏ ltb 1 (byte r 4) ⇒ Reading.Broken h
-    ⁏ not (blank (drop 13 r)) ⇒ Reading.Broken h
+    ⁏ not (blank (drop 16 r)) ⇒ Reading.Broken h
     ⁏ Reading.Found (slotFrom h r)
 
 unfoldable pub cardWith : Known → List ℕ → Reading

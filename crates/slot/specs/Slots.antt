@@ -20,31 +20,37 @@ ownType (Card chip) = facts chip .selects
 
 -- ---- the changes
 -- a record of its fields, and a record with one field changed; every other change is made of these
-abbrev pub slotted : Holds → Bool → ℕ → ℕ → Bool → ℕ → Slot
-slotted h on t p o set = record { holds = h; active = on; selected = t; page = p; «open» = o; set = set }
+abbrev pub slotted : Holds → Bool → ℕ → ℕ → Bool → ℕ → ℕ → ℕ → Slot
+slotted h on t p o set left n = record { holds = h; active = on; selected = t; page = p; «open» = o; set = set; tries = left; protected = n }
 
 abbrev pub activeAs : Bool → Slot → Slot
-activeAs on s = slotted (s .holds) on (s .selected) (s .page) (s .«open») (s .set)
+activeAs on s = slotted (s .holds) on (s .selected) (s .page) (s .«open») (s .set) (s .tries) (s .protected)
 
 abbrev pub typeAs : ℕ → Slot → Slot
-typeAs t s = slotted (s .holds) (s .active) t (s .page) (s .«open») (s .set)
+typeAs t s = slotted (s .holds) (s .active) t (s .page) (s .«open») (s .set) (s .tries) (s .protected)
 
 abbrev pub pageAs : ℕ → Slot → Slot
-pageAs p s = slotted (s .holds) (s .active) (s .selected) p (s .«open») (s .set)
+pageAs p s = slotted (s .holds) (s .active) (s .selected) p (s .«open») (s .set) (s .tries) (s .protected)
 
 abbrev pub openAs : Bool → Slot → Slot
-openAs o s = slotted (s .holds) (s .active) (s .selected) (s .page) o (s .set)
+openAs o s = slotted (s .holds) (s .active) (s .selected) (s .page) o (s .set) (s .tries) (s .protected)
 
 abbrev pub setAs : ℕ → Slot → Slot
-setAs set s = slotted (s .holds) (s .active) (s .selected) (s .page) (s .«open») set
+setAs set s = slotted (s .holds) (s .active) (s .selected) (s .page) (s .«open») set (s .tries) (s .protected)
 
--- "Insertion gives: inactive, no type, page 8, closed"; the default parameters return
-abbrev pub inserted : Chip → Slot
-inserted chip = slotted (Card chip) false 0 8 false defaultSet
+abbrev pub triesAs : ℕ → Slot → Slot
+triesAs left s = slotted (s .holds) (s .active) (s .selected) (s .page) (s .«open») (s .set) left (s .protected)
 
--- "Removal always gives the empty sound slot"; the default parameters return
+abbrev pub protectedAs : ℕ → Slot → Slot
+protectedAs n s = slotted (s .holds) (s .active) (s .selected) (s .page) (s .«open») (s .set) (s .tries) n
+
+-- "Insertion gives: inactive, no type, page 8, closed"; the default parameters return; tries left and number of protected bytes are those that come
+abbrev pub inserted : Chip → ℕ → ℕ → Slot
+inserted chip left n = slotted (Card chip) false 0 8 false defaultSet left n
+
+-- "Removal always gives the empty sound slot"; the default parameters return; "For .. an empty slot both are 0"
 abbrev pub removed : Slot
-removed = slotted Empty false 0 8 false defaultSet
+removed = slotted Empty false 0 8 false defaultSet 0 0
 
 -- "Power on: active, no type, closed"; "Power off: inactive, no type, closed. Page size survives both"
 abbrev pub powered : Bool → Slot → Slot

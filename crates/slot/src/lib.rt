@@ -3,7 +3,7 @@
 
 use chips::Chip;
 ghost use mathlib.Core.Path.{_≡_};
-ghost use Rattle.slot.specs.Slots.{occupied, ownType, slotted, inserted, removed, powered, selecting, paged, openAs, opened, closed, setAs, defaulted};
+ghost use Rattle.slot.specs.Slots.{occupied, ownType, slotted, inserted, removed, powered, selecting, paged, openAs, opened, closed, setAs, defaulted, triesAs, protectedAs};
 
 // The slot holds nothing or a card of one kind; its image stays beside it.
 pub enum Holds {
@@ -19,21 +19,34 @@ pub struct Slot {
     pub selected: u8,
     // The reader page.
     pub page: u8,
+    // The number of protected bytes, as the image has it.
+    pub protected: u16,
     // The parameters: a number that is read by crate sets.
     pub set: usize,
+    // Tries left, as the image has them.
+    pub tries: u8,
 }
 
 // The empty sound slot, which a reader starts with.
 pub fn empty() -> Slot
     ensures { λ r. ⌜ r ≡ removed ⌝ }
 {
-    Slot::of(Holds::Empty, false, 0, 8, false, sets::default_set())
+    Slot::of(Holds::Empty, false, 0, 8, false, sets::default_set(), 0, 0)
 }
 
 impl Slot {
     // A record of its fields.
-    pub fn of(holds: Holds, active: bool, selected: u8, page: u8, open: bool, set: usize) -> Slot
-        ensures { λ r. ⌜ r ≡ slotted holds active selected page «open» set ⌝ }
+    pub fn of(
+        holds: Holds,
+        active: bool,
+        selected: u8,
+        page: u8,
+        open: bool,
+        set: usize,
+        tries: u8,
+        protected: u16,
+    ) -> Slot
+        ensures { λ r. ⌜ r ≡ slotted holds active selected page «open» set tries protected ⌝ }
     {
         Slot {
             holds,
@@ -42,17 +55,20 @@ impl Slot {
             selected,
             page,
             set,
+            tries,
+            protected,
         }
     }
 
     // ---- the changes: each method hands back the next record
 
-    // Inactive, no type, page 8, closed, the default parameters.
-    pub fn insert(self, chip: Chip) -> Slot
-        ensures { λ r. ⌜ r ≡ inserted chip ⌝ }
+    // Inactive, no type, page 8, closed, the default parameters, and the counts of the image that is put in.
+    pub fn insert(self, chip: Chip, tries: u8, protected: u16) -> Slot
+        ensures { λ r. ⌜ r ≡ inserted chip tries protected ⌝ }
     {
         let holds = Holds::Card(chip);
-        Slot::of(holds, false, 0, 8, false, sets::default_set())
+        let set = sets::default_set();
+        Slot::of(holds, false, 0, 8, false, set, tries, protected)
     }
 
     // The empty sound slot.
@@ -124,6 +140,22 @@ impl Slot {
         ensures { λ r. ⌜ r ≡ defaulted self ⌝ }
     {
         self.with_set(sets::default_set())
+    }
+
+    // Tries left.
+    pub fn with_tries(mut self, tries: u8) -> Slot
+        ensures { λ r. ⌜ r ≡ triesAs tries self ⌝ }
+    {
+        self.tries = tries;
+        self
+    }
+
+    // The number of protected bytes.
+    pub fn with_protected(mut self, protected: u16) -> Slot
+        ensures { λ r. ⌜ r ≡ protectedAs protected self ⌝ }
+    {
+        self.protected = protected;
+        self
     }
 
     // ---- what it holds

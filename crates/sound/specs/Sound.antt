@@ -11,6 +11,7 @@ use Rattle.slot.specs.declared.Holds.{Holds}
 use Rattle.slot.specs.declared.Holds.the-variants.{Empty, Card}
 use Rattle.slot.specs.declared.Slot.{Slot}
 use Rattle.slot.specs.Slots.{occupied, ownType}
+use Rattle.counts.specs.Counts.{triesOf, protectedOf}
 
 -- a code card with a full counter
 abbrev pub fullCode : Holds → List ℕ → Bool
@@ -46,6 +47,11 @@ openSound s image = s .«open» means fullCode (s .holds) image and s .selected 
 unfoldable pub setSound : Holds → ℕ → Bool
 setSound h set = takes set and (not (occupied h) means set is defaultSet)
 
--- "It is sound when": all six hold.
+-- "number 4 is also given when a stored count differs from the image's, or with no card is not 0"
+unfoldable pub countsSound : Slot → List ℕ → Bool
+countsSound s image = s .tries is triesOf (s .holds) image and s .protected is protectedOf (s .holds) image
+
+-- "It is sound when": all seven hold.
 unfoldable pub sound : Slot → List ℕ → Bool
-sound s image = pageSize (s .page) and emptySound s and idleSound s and typeSound s and openSound s image and setSound (s .holds) (s .set)
+sound s image =
+    pageSize (s .page) and emptySound s and idleSound s and typeSound s and openSound s image and setSound (s .holds) (s .set) and countsSound s image

@@ -5,7 +5,7 @@ use slot::Holds;
 use slot::Slot;
 use words::byte_at;
 ghost use mathlib.Core.Path.{_≡_};
-ghost use Rattle.sound.specs.Sound.{fullCode, imageIsCard, pageSize, emptySound, idleSound, typeSound, openSound, setSound, sound};
+ghost use Rattle.sound.specs.Sound.{fullCode, imageIsCard, pageSize, emptySound, idleSound, typeSound, openSound, setSound, countsSound, sound};
 
 // Whether the card is a code card with a full counter.
 fn full_code(slot: Slot, image: &[u8]) -> bool
@@ -94,6 +94,17 @@ fn set_sound(slot: Slot) -> bool
     sets::is_taken(slot.set)
 }
 
+// Tries left and number of protected bytes are those of the image; with no card both are 0.
+fn counts_sound(slot: Slot, image: &[u8]) -> bool
+    ensures { λ r. ⌜ r ≡ countsSound slot (now (image .entry)) ⌝ }
+{
+    let holds = slot.holds;
+    if slot.tries != counts::tries_of(holds, image) {
+        return false;
+    }
+    slot.protected == counts::protected_of(holds, image)
+}
+
 // Whether the record is sound, beside the image of its card.
 pub fn is_sound(slot: Slot, image: &[u8]) -> bool
     ensures { λ r. ⌜ r ≡ sound slot (now (image .entry)) ⌝ }
@@ -113,7 +124,10 @@ pub fn is_sound(slot: Slot, image: &[u8]) -> bool
     if !open_sound(slot, image) {
         return false;
     }
-    set_sound(slot)
+    if !set_sound(slot) {
+        return false;
+    }
+    counts_sound(slot, image)
 }
 
 // Whether a number is a reader page.

@@ -4,12 +4,15 @@ use mathlib.Core.Bool.{false}
 use mathlib.Core.List.{List, [], _∷_, _++_}
 use lib.ListN.{replicate, set}
 use Rattle.chips.specs.declared.Chip.the-variants.{Sle4418, Sle4432}
-use Rattle.slot.specs.Slots.{inserted}
-use Rattle.vectors.specs.Sessions.{Row, selectedSlot, transfer, success}
+use Rattle.vectors.specs.Sessions.{Row, fresh, selectedSlot, transfer, success}
 
--- an SLE4418 with memory A2 13 10 91 .. and 05 06 07 from 3FDh on, and an SLE4432 with memory A2 13 10 91 ..; nothing protected
+-- an SLE4418 with memory A2 13 10 91 .. and 05 06 07 from 3FDh on, with these protection bytes, and with nothing protected; an SLE4432 with memory
+-- A2 13 10 91 .. and nothing protected
+abbrev pub guarded4418 : List ℕ → List ℕ
+guarded4418 bits = 0xA2 ∷ 0x13 ∷ 0x10 ∷ 0x91 ∷ replicate 1017 0 ++ (0x05 ∷ 0x06 ∷ 0x07 ∷ []) ++ bits
+
 unfoldable pub image4418 : List ℕ
-image4418 = 0xA2 ∷ 0x13 ∷ 0x10 ∷ 0x91 ∷ replicate 1017 0 ++ (0x05 ∷ 0x06 ∷ 0x07 ∷ []) ++ replicate 128 0xFF
+image4418 = guarded4418 (replicate 128 0xFF)
 
 unfoldable pub image4432 : List ℕ
 image4432 = 0xA2 ∷ 0x13 ∷ 0x10 ∷ 0x91 ∷ replicate 252 0 ++ replicate 4 0xFF ++ replicate 4 0
@@ -34,7 +37,7 @@ unfoldable pub plainSessions : List Row
 plainSessions =
     -- 1. SLE4418, just inserted: 62 tells 3B 04 and four bytes; A4 with 05h; 3FDh to 3FFh are read in clear, and written with no code
     record {
-      slot = inserted Sle4418;
+      slot = fresh Sle4418;
       image = image4418;
       messages =
           (0x62 ∷ replicate 9 0)
@@ -101,7 +104,7 @@ plainSessions =
     0x3FD (0x05 ∷ 0x06 ∷ 0x07 ∷ [])
     -- 5. SLE4432: 62 tells 3B 04 and four bytes; memory to FFh, protection bits to 1Fh
     ∷ record {
-      slot = inserted Sle4432;
+      slot = fresh Sle4432;
       image = image4432;
       messages =
           (0x62 ∷ replicate 9 0)

@@ -11,7 +11,8 @@ use Rattle.chips.specs.declared.Chip.{Chip}
 use Rattle.chips.specs.declared.Chip.the-variants.{I2c1, Sle4428, Sle4442}
 use Rattle.chips.specs.Kinds.{facts}
 use Rattle.slot.specs.declared.Slot.{Slot}
-use Rattle.slot.specs.Slots.{inserted, powered, selecting, paged}
+use Rattle.slot.specs.Slots.{inserted, powered, selecting, paged, triesAs, protectedAs}
+use Rattle.counts.specs.Counts.{triesOf, protectedOf}
 use Rattle.frame.specs.Exchange.{Outcome}
 use Rattle.reader.specs.Runs.{Sent, run}
 
@@ -37,9 +38,13 @@ sameAnswers (o ∷ os) (a ∷ as′) = same (o .answer) a and sameAnswers os as�
 unfoldable pub lent : List (List ℕ) → List Sent
 lent ms = map (λ (m : List ℕ). record { message = m; room = leastRoom }) ms
 
+-- a slot record with the counts of an image: the slots of the rows are written without them
+unfoldable pub recounted : List ℕ → Slot → Slot
+recounted image s = triesAs (triesOf (s .holds) image) (protectedAs (protectedOf (s .holds) image) s)
+
 unfoldable pub holds : Row → Bool
 holds w =
-    let r = run (w .slot) (w .image) (lent (w .messages)) in
+    let r = run (recounted (w .image) (w .slot)) (w .image) (lent (w .messages)) in
     sameAnswers (r .outcomes) (w .answers)
     and same (take (length (w .bytes)) (drop (w .address) (r .image))) (w .bytes)
     and Bool·beq (r .slot .«open») (w .opened)
@@ -50,9 +55,12 @@ failing k [] = 0
 failing k (w ∷ ws) = let later = failing (k + 1) ws in holds w ⇒ later ⁏ k
 
 -- ---- the words of the table
--- a card put in, powered and with its type selected: closed, and page 8
+-- a card put in; and one powered and with its type selected: closed, and page 8
+abbrev pub fresh : Chip → Slot
+fresh chip = inserted chip 0 0
+
 unfoldable pub selectedSlot : Chip → Slot
-selectedSlot chip = selecting (facts chip .selects) (powered true (inserted chip))
+selectedSlot chip = selecting (facts chip .selects) (powered true (fresh chip))
 
 -- "an SLE4442 with memory A2 13 10 91 .., .. code 11 22 33", and an SLE4428 with code 11 22, each with a counter and nothing protected
 unfoldable pub image4442 : ℕ → List ℕ

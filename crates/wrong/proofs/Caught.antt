@@ -27,7 +27,8 @@ slot-self : (s : Slot) → likeSlot s s ≡ true
 unfolding likeSlot
 slot-self s =
     both (eq-eqb (kindOf (s .holds)) _ refl)
-    (both (beq-self (s .active)) (both (eq-eqb (s .selected) _ refl) (both (eq-eqb (s .page) _ refl) (both (beq-self (s .«open»)) (eq-eqb (s .set) _ refl)))))
+    (both (beq-self (s .active)) (both (eq-eqb (s .selected) _ refl) (both (eq-eqb (s .page) _ refl) (both (beq-self (s .«open»))
+    (both (eq-eqb (s .set) _ refl) (both (eq-eqb (s .tries) _ refl) (eq-eqb (s .protected) _ refl)))))))
 
 pub like-slot : {s t : Slot} → s ≡ t → likeSlot s t ≡ true
 like-slot {s} e = subst (λ (t : Slot). likeSlot s t ≡ true) e (slot-self s)
@@ -92,6 +93,6 @@ all-caught = refl
 pub all-refuted : EachRefuted wrongReaders
 all-refuted = each-refuted 0 wrongReaders all-caught
 
-pub row-count : length wrongReaders ≡ 1629
+pub row-count : length wrongReaders ≡ 1759
 unfolding rules wrongReaders
 row-count = refl

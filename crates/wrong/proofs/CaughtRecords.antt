@@ -14,7 +14,8 @@ use Rattle.reader.specs.declared.Meant.{Meant}
 use Rattle.reader.specs.Fronts.{frontOf}
 use Rattle.reader.specs.Rules.{rules}
 use Rattle.calls.specs.Calls.{RawOutcome, keeping, brokenAs, rawServed, rawFronted, rawExchange, rawInsertion, rawRemoval, RawGives}
-use Rattle.vectors.specs.Sessions.{selectedSlot, image4442, transfer}
+use Rattle.vectors.specs.Sessions.{recounted, selectedSlot, image4442, transfer}
+use Rattle.vectors.specs.Plain.{image4418}
 use Rattle.wrong.specs.WrongRecords.{RawWitness, byRawMessage, byRawInsertion, byRawRemoval, byResult, likeRaw, likeResult, rawCaught, rawUncaught}
 use Rattle.wrong.specs.WrongRecords.{RawApart, RawRefuted, EachRawRefuted, wrongRecords, rawTests, frontedBy, recordBy}
 use Rattle.wrong.proofs.Caught.{answer-met, none-left}
@@ -59,8 +60,8 @@ each-raw-refuted k (w ∷ ws) e = let t = none-left k (rawCaught w) (rawUncaught
 
 -- ---- the table
 pub records-caught : rawUncaught 1 wrongRecords ≡ 0
-unfolding rules eightAt rawOf slotWith cardWith slotOf frontOf keeping brokenAs rawServed rawExchange rawInsertion rawRemoval selectedSlot image4442
-    transfer rawTests
+unfolding rules eightAt rawOf slotWith cardWith slotOf frontOf keeping brokenAs rawServed rawExchange rawInsertion rawRemoval recounted selectedSlot image4442
+    image4418 transfer rawTests
 records-caught = refl
 
 pub records-refuted : EachRawRefuted wrongRecords

@@ -18,7 +18,7 @@ use Rattle.sets.specs.Sets.{faultAt, setOf}
 use Rattle.slot.specs.declared.Holds.{Holds}
 use Rattle.slot.specs.declared.Holds.the-variants.{Empty, Card}
 use Rattle.slot.specs.declared.Slot.{Slot}
-use Rattle.slot.specs.Slots.{inserted}
+use Rattle.counts.specs.Counts.{putIn}
 use Rattle.card.specs.Images.{isCard}
 use Rattle.steps.specs.declared.Status.{Status}
 use Rattle.steps.specs.declared.Order.{Order}
@@ -34,7 +34,7 @@ use Rattle.frame.specs.Exchange.{served, Outcome, turnedDown, answered, replied
 use Rattle.reader.specs.Runs.{Sent, sending, run}
 use Rattle.promise.specs.Sequences.{sentWith}
 use Rattle.promise.proofs.Reached.{transfers-is, transfer-does}
-use Rattle.wrong.specs.Wrong.{Reader, rowed, oneByOne, cardIn, taking, vetting, faulting, early, fielding, upon, commandingOn, commanding, ordering, sooner, letting, barring}
+use Rattle.wrong.specs.Wrong.{Reader, rowed, oneByOne, cardIn, taking, refusing, vetting, faulting, early, fielding, upon, commandingOn, commanding, ordering, sooner, letting, barring}
 use Rattle.wrong.specs.Wrong.{tells, leaves, lets, doing, atWrong, atRight, insertsAs, insertsBy, uponInsert}
 use Rattle.wrong.specs.WrongStores.{storingBy, reportingBy, atUnequal}
 
@@ -53,7 +53,7 @@ data Tested (s : Slot) (image m : List ℕ) : Outcome → Type 0 where
   message : Tested s image m (turnedDown Refusal.Message s image)
   image : imageIsCard (s .holds) image ≡ false → Tested s image m (turnedDown Refusal.Image s image)
   record′ : sound s image ≡ false → Tested s image m (turnedDown Refusal.Record s image)
-  passed : Tested s image m (reply (requestOf (typeByte m)) s image m)
+  passed : sound s image ≡ true → Tested s image m (reply (requestOf (typeByte m)) s image m)
 
 tested : (s : Slot) (image m : List ℕ) (room : ℕ) → Tested s image m (exchange s image m room)
 unfolding exchange served
@@ -61,7 +61,7 @@ tested s i m room =
     past (Tested s i m) _ buffer (λ _.
     past (Tested s i m) _ message (λ _.
     either (Tested s i m) _ (λ e. image (not-true _ e)) (λ _.
-    either (Tested s i m) _ (λ e. record′ (not-true _ e)) (λ _. passed))))
+    either (Tested s i m) _ (λ e. record′ (not-true _ e)) (λ e. passed (not-false _ e)))))
 
 pub faulting-ours : Ours (faulting faultOf)
 unfolding faulting reply replied _⇒_⁏_
@@ -72,7 +72,7 @@ faulting-ours s i m room = go (tested s i m room)
     go message = refl
     go (image e) = refl
     go (record′ e) = refl
-    go passed = refl
+    go (passed e) = refl
 
 -- where the byte that is wrong is the rules', so is the fault
 module _ (s : Slot) (m : List ℕ) where
@@ -118,7 +118,18 @@ vetting-ours s i m room = go (tested s i m room)
     go message = refl
     go (image e) = refl
     go (record′ e) = rest _ _ e
-    go passed = refl
+    go (passed e) = refl
+
+pub refusing-ours : Ours (refusing sound)
+unfolding refusing reply replied _and_ _⇒_⁏_
+refusing-ours s i m room = go (tested s i m room)
+  where
+    go : {o : Outcome} → Tested s i m o → (o .number is 0 and not (sound s i) ⇒ turnedDown Refusal.Record s i ⁏ o) ≡ o
+    go buffer = refl
+    go message = refl
+    go (image e) = refl
+    go (record′ e) = refl
+    go (passed e) = rest _ _ (ap not e)
 
 -- an image that is none of the card in the slot
 no-card : (h : Holds) (i : List ℕ) → imageIsCard h i ≡ false → isCard (cardIn h) i ≡ false
@@ -135,7 +146,7 @@ taking-ours s i m room = go (tested s i m room)
     go message = refl
     go (image e) = rest _ _ (no-card (s .holds) i e)
     go (record′ e) = refl
-    go passed = refl
+    go (passed e) = refl
 
 -- ---- commands
 -- a reader whose commands do what the rules say is ours
@@ -242,7 +253,7 @@ barring-ours status = ordering-ours _ (λ f s i d. never _ _ _)
 data Put (chip : Chip) (s : Slot) (image : List ℕ) : Outcome → Type 0 where
   occupied : Put chip s image (turnedDown Refusal.Occupied s image)
   other : isCard (facts chip) image ≡ false → Put chip s image (turnedDown Refusal.Image s image)
-  taken : Put chip s image (record { number = 0; answer = []; slot = inserted chip; image = image })
+  taken : Put chip s image (record { number = 0; answer = []; slot = putIn chip image; image = image })
 
 put : (chip : Chip) (s : Slot) (kind : ℕ) (i : List ℕ) → chipOf kind ≡ Is chip → Put chip s i (insertion s kind i)
 unfolding insertion insertedAs
@@ -256,7 +267,7 @@ inserts-as Unknown s kind i e = refl
 inserts-as (Is chip) s kind i e = go (put chip s kind i e)
   where
     go : {o : Outcome} → Put chip s i o
-        → (o .number is 3 and isCard (facts chip) i ⇒ record { number = 0; answer = []; slot = inserted chip; image = i } ⁏ o) ≡ o
+        → (o .number is 3 and isCard (facts chip) i ⇒ record { number = 0; answer = []; slot = putIn chip i; image = i } ⁏ o) ≡ o
     go occupied = refl
     go (other h) = rest _ _ h
     go taken = refl

@@ -24,6 +24,8 @@ likeSlot s t =
     and s .page is t .page
     and Bool·beq (s .«open») (t .«open»)
     and s .set is t .set
+    and s .tries is t .tries
+    and s .protected is t .protected
 
 unfoldable pub likeOutcome : Outcome → Outcome → Bool
 likeOutcome o p =

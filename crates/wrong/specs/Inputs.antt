@@ -7,8 +7,8 @@ use Rattle.words.specs.Bounds.{leastRoom}
 use Rattle.chips.specs.declared.Chip.{Chip}
 use Rattle.chips.specs.declared.Chip.the-variants.{Sle4442}
 use Rattle.slot.specs.declared.Slot.{Slot}
-use Rattle.slot.specs.Slots.{inserted, powered, opened}
-use Rattle.vectors.specs.Sessions.{selectedSlot, image4442, image4428, transfer}
+use Rattle.slot.specs.Slots.{powered, opened}
+use Rattle.vectors.specs.Sessions.{recounted, fresh, selectedSlot, image4442, image4428, transfer}
 use Rattle.vectors.specs.Plain.{image4418, image4432}
 use Rattle.wrong.specs.Wrong.{Reader, Runner}
 use Rattle.wrong.specs.Caught.{Witness, byMessage, byRun}
@@ -16,7 +16,7 @@ use Rattle.wrong.specs.Caught.{Witness, byMessage, byRun}
 -- ---- slots and images
 -- a card that is active with no type
 abbrev pub bare : Chip → Slot
-bare chip = powered true (inserted chip)
+bare chip = powered true (fresh chip)
 
 -- one with its type selected, closed; and open
 abbrev pub shut : Chip → Slot
@@ -61,12 +61,13 @@ abbrev pub sixteen : List ℕ
 sixteen = 0 ∷ 1 ∷ 2 ∷ 3 ∷ 4 ∷ 5 ∷ 6 ∷ 7 ∷ 8 ∷ 9 ∷ 10 ∷ 11 ∷ 12 ∷ 13 ∷ 14 ∷ 15 ∷ []
 
 -- ---- rows
--- one message with the smallest answer buffer; one on the closed SLE4442 with this counter; a run on it with a full counter
+-- one message with the smallest answer buffer, to a slot with the counts of the image; one on the closed SLE4442 with this counter; a run on it
+-- with a full counter
 abbrev pub on : Reader → Slot → List ℕ → List ℕ → Witness
-on w s image m = byMessage w s image m leastRoom
+on w s image m = byMessage w (recounted image s) image m leastRoom
 
 abbrev pub at4442 : Reader → ℕ → List ℕ → Witness
 at4442 w counter m = on w (shut Sle4442) (image4442 counter) m
 
 abbrev pub run4442 : Runner → List (List ℕ) → Witness
-run4442 w ms = byRun w (shut Sle4442) mem4442 ms
+run4442 w ms = byRun w (recounted mem4442 (shut Sle4442)) mem4442 ms

@@ -9,12 +9,14 @@ pub mod WrongSteps
 pub mod WrongCommands
 pub mod WrongPlain
 pub mod WrongStores
+pub mod WrongCounts
 pub mod Inputs
 pub mod MessageRows
 pub mod CommandRows
 pub mod ParamRows
 pub mod PlainRows
 pub mod StoreRows
+pub mod CountRows
 pub mod Witnesses
 pub mod WrongRecords
 pub mod WrongPrinters

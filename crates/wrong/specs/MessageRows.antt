@@ -3,8 +3,8 @@ use mathlib.Core.Bool.{true}
 use mathlib.Core.List.{List, [], _∷_, _++_}
 use lib.ListN.{replicate, take, set}
 use Rattle.chips.specs.declared.Chip.the-variants.{I2c1, Sle4428, Sle4442}
-use Rattle.slot.specs.Slots.{inserted, removed, powered, selecting, paged, opened}
-use Rattle.vectors.specs.Sessions.{image4442, image4428, transfer, wrong4442, right4442}
+use Rattle.slot.specs.Slots.{removed, powered, selecting, paged, opened}
+use Rattle.vectors.specs.Sessions.{recounted, fresh, image4442, image4428, transfer, wrong4442, right4442}
 use Rattle.promise.specs.Visits.{select, readCounter}
 use Rattle.wrong.specs.Wrong.{oneByOne}
 use Rattle.wrong.specs.Caught.{Witness, byMessage, byInsertion, byRemoval}
@@ -53,9 +53,9 @@ buildRows =
 -- ---- turned down: numbers 1 to 4, their order, what is left
 abbrev pub downRows : List Witness
 downRows =
-    byMessage downs.takes270 (shut Sle4442) mem4442 (plain 0x65) 270
-    ∷ byMessage downs.refuses271 (shut Sle4442) mem4442 (plain 0x65) 271
-    ∷ byMessage downs.anyBuffer (shut Sle4442) mem4442 (plain 0x65) 0
+    byMessage downs.takes270 (recounted mem4442 (shut Sle4442)) mem4442 (plain 0x65) 270
+    ∷ byMessage downs.refuses271 (recounted mem4442 (shut Sle4442)) mem4442 (plain 0x65) 271
+    ∷ byMessage downs.anyBuffer (recounted mem4442 (shut Sle4442)) mem4442 (plain 0x65) 0
     ∷ at4442 downs.takesNine 0x07 (take 9 (plain 0x65))
     ∷ at4442 downs.refusesTen 0x07 (plain 0x65)
     ∷ on downs.anyLength (shut Sle4442) (mem4442 ++ (0x00 ∷ [])) (plain 0x65)
@@ -66,17 +66,17 @@ downRows =
     ∷ on downs.anyPage (paged 24 (shut Sle4442)) mem4442 (plain 0x65)
     ∷ on downs.emptyActive (powered true removed) [] (plain 0x65)
     ∷ on downs.emptyPaged (paged 16 removed) [] (plain 0x65)
-    ∷ on downs.idleTyped (selecting 0x06 (inserted Sle4442)) mem4442 (plain 0x65)
-    ∷ on downs.idleOpen (opened (selecting 0x06 (inserted Sle4442))) mem4442 (plain 0x65)
+    ∷ on downs.idleTyped (selecting 0x06 (fresh Sle4442)) mem4442 (plain 0x65)
+    ∷ on downs.idleOpen (opened (selecting 0x06 (fresh Sle4442))) mem4442 (plain 0x65)
     ∷ on downs.otherType (selecting 0x05 (bare Sle4442)) mem4442 (plain 0x65)
     ∷ on downs.openPlain (wide I2c1) memI2c (plain 0x65)
     ∷ on downs.openUntyped (opened (bare Sle4442)) mem4442 (plain 0x65)
     ∷ on downs.openSpent (wide Sle4442) (image4442 0x03) (plain 0x65)
     ∷ on downs.openBefore (wide Sle4428) (set (image4428 0x7F) 0x3FC 0xFF) (plain 0x65)
-    ∷ byMessage downs.messageFirst (shut Sle4442) mem4442 [] 0
+    ∷ byMessage downs.messageFirst (recounted mem4442 (shut Sle4442)) mem4442 [] 0
     ∷ at4442 downs.imageFirst 0x08 []
     ∷ on downs.recordFirst (paged 24 (shut Sle4442)) (image4442 0x08) (plain 0x65)
-    ∷ byMessage (downs.misnumbers 1) (shut Sle4442) mem4442 (plain 0x65) 0
+    ∷ byMessage (downs.misnumbers 1) (recounted mem4442 (shut Sle4442)) mem4442 (plain 0x65) 0
     ∷ at4442 (downs.misnumbers 2) 0x07 []
     ∷ at4442 (downs.misnumbers 3) 0x08 (plain 0x65)
     ∷ on (downs.misnumbers 4) (paged 24 (shut Sle4442)) mem4442 (plain 0x65)
@@ -147,8 +147,8 @@ answerRows =
     ∷ at4442 (answers.misnames 0x08) 0x07 (set wrong4442 8 0x01)
     ∷ on (answers.misnames 0xFE) removed [] (plain 0x62)
     ∷ at4442 answers.namesSuccess 0x07 (plain 0x65)
-    ∷ on answers.clockIn80 (inserted Sle4442) mem4442 wrong4442
-    ∷ on answers.clockRuns (inserted Sle4442) mem4442 (plain 0x65)
+    ∷ on answers.clockIn80 (fresh Sle4442) mem4442 wrong4442
+    ∷ on answers.clockRuns (fresh Sle4442) mem4442 (plain 0x65)
     ∷ at4442 answers.clockStands 0x07 (plain 0x65)
     ∷ at4442 answers.clockOfOwn 0x07 (set (plain 0x65) 5 0x01)
     ∷ at4442 answers.clockBefore 0x07 (plain 0x63)
@@ -191,10 +191,10 @@ faultRows =
     ∷ at4442 (faults.levelIn 0x62) 0x07 (set (plain 0x62) 8 0x01)
     ∷ at4442 (faults.levelIn 0x65) 0x07 (set (plain 0x65) 9 0x01)
     ∷ on faults.powersNothing removed [] (plain 0x62)
-    ∷ on faults.powersActive (inserted Sle4442) mem4442 (plain 0x62)
+    ∷ on faults.powersActive (fresh Sle4442) mem4442 (plain 0x62)
     ∷ at4442 faults.powersOnce 0x07 (plain 0x62)
-    ∷ on faults.transfersIdle (inserted Sle4442) mem4442 (ask 0xA4 0x00 0x00 0x01 (0x06 ∷ []))
-    ∷ on faults.transferWakes (inserted Sle4442) mem4442 (ask 0xA4 0x00 0x00 0x01 (0x06 ∷ []))
+    ∷ on faults.transfersIdle (fresh Sle4442) mem4442 (ask 0xA4 0x00 0x00 0x01 (0x06 ∷ []))
+    ∷ on faults.transferWakes (fresh Sle4442) mem4442 (ask 0xA4 0x00 0x00 0x01 (0x06 ∷ []))
     ∷ on (faults.needsCard 0x63) removed [] (plain 0x63)
     ∷ on (faults.needsCard 0x65) removed [] (plain 0x65)
     ∷ at4442 faults.lengthBeforeType 0x07 (set (plain 0x69) 1 0x01)
@@ -209,7 +209,7 @@ powerRows =
     at4442 faults.onKeepsType 0x07 (plain 0x62)
     ∷ on faults.onKeepsOpen (wide Sle4442) mem4442 (plain 0x62)
     ∷ on faults.onResetsPage (paged 16 (shut I2c1)) memI2c (plain 0x62)
-    ∷ on faults.onStaysIdle (inserted Sle4442) mem4442 (plain 0x62)
+    ∷ on faults.onStaysIdle (fresh Sle4442) mem4442 (plain 0x62)
     ∷ at4442 faults.resetBare 0x07 (plain 0x62)
     ∷ on faults.resetFull (shut I2c1) memI2c (plain 0x62)
     ∷ at4442 faults.resetShort 0x07 (plain 0x62)

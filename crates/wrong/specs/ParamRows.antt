@@ -5,8 +5,8 @@ use lib.ListN.{set}
 use Rattle.chips.specs.declared.Chip.the-variants.{Sle4442}
 use Rattle.sets.specs.Sets.{setWith}
 use Rattle.slot.specs.declared.Slot.{Slot}
-use Rattle.slot.specs.Slots.{inserted, removed, setAs}
-use Rattle.vectors.specs.Sessions.{wrong4442}
+use Rattle.slot.specs.Slots.{removed, setAs}
+use Rattle.vectors.specs.Sessions.{fresh, wrong4442}
 use Rattle.vectors.specs.Parameters.{setting}
 use Rattle.promise.specs.Visits.{select}
 use Rattle.wrong.specs.Caught.{Witness, byInsertion, byRemoval}
@@ -72,9 +72,9 @@ paramRows =
     ∷ on (params.cardless 0x61) removed [] (setting 0 good0)
     ∷ on (params.cardless 0x6C) removed [] (plain 0x6C)
     ∷ on (params.cardless 0x6D) removed [] (plain 0x6D)
-    ∷ on (params.wantsActive 0x61) (inserted Sle4442) mem4442 (setting 0 good0)
-    ∷ on (params.wantsActive 0x6C) (inserted Sle4442) mem4442 (plain 0x6C)
-    ∷ on (params.wantsActive 0x6D) (inserted Sle4442) mem4442 (plain 0x6D)
+    ∷ on (params.wantsActive 0x61) (fresh Sle4442) mem4442 (setting 0 good0)
+    ∷ on (params.wantsActive 0x6C) (fresh Sle4442) mem4442 (plain 0x6C)
+    ∷ on (params.wantsActive 0x6D) (fresh Sle4442) mem4442 (plain 0x6D)
     ∷ at4442 (params.answers81 0x61) 0x07 (setting 0 good0)
     ∷ at4442 (params.answers81 0x6C) 0x07 (plain 0x6C)
     ∷ at4442 (params.answers81 0x6D) 0x07 (plain 0x6D)
@@ -82,7 +82,7 @@ paramRows =
     ∷ on (params.failure81 0x6C) removed [] (plain 0x6C)
     ∷ on (params.failure81 0x6D) removed [] (plain 0x6D)
     ∷ on params.protocolNone (stored 1 good1) mem4442 (plain 0x6C)
-    ∷ on params.clockIn82 (inserted Sle4442) mem4442 (plain 0x6C)
+    ∷ on params.clockIn82 (fresh Sle4442) mem4442 (plain 0x6C)
     ∷ at4442 params.protocolBefore 0x07 (setting 1 good1)
     ∷ on params.failureProtocol (stored 1 good1) mem4442 (set (plain 0x6C) 5 0x01)
     ∷ at4442 params.failureTells 0x07 (setting 1 good0)

@@ -2,9 +2,10 @@
 use mathlib.Core.List.{List, [], _∷_}
 use lib.ListN.{set}
 use Rattle.chips.specs.declared.Chip.the-variants.{Sle4428, Sle4418, Sle4442, Sle4432}
-use Rattle.slot.specs.Slots.{removed, inserted}
+use Rattle.slot.specs.Slots.{removed}
 use Rattle.vectors.specs.Plain.{image4418, image4432}
 use Rattle.promise.specs.Visits.{select}
+use Rattle.vectors.specs.Sessions.{fresh}
 use Rattle.wrong.specs.Caught.{Witness, byInsertion}
 use Rattle.wrong.specs.Inputs.{bare, shut, wide, mem4442, mem4428, kept4442, kept4428, kept4418, kept4432, plain, ask, on}
 use Rattle.wrong.specs.WrongDowns as downs
@@ -31,8 +32,8 @@ plainRows =
     ∷ on plains.selectOpens (bare Sle4432) image4432 (select 0x06)
     ∷ byInsertion plains.insertOpensPlain removed 21 image4418
     ∷ byInsertion plains.insertOpensPlain removed 31 image4432
-    ∷ on plains.resetPlain (inserted Sle4418) image4418 (plain 0x62)
-    ∷ on plains.resetPlain (inserted Sle4432) image4432 (plain 0x62)
+    ∷ on plains.resetPlain (fresh Sle4418) image4418 (plain 0x62)
+    ∷ on plains.resetPlain (fresh Sle4432) image4432 (plain 0x62)
     ∷ on (plains.asCoded 0xB1) (shut Sle4418) image4418 (ask 0xB1 0x00 0x00 0x03 [])
     ∷ on (plains.asCoded 0xB1) (shut Sle4432) image4432 (ask 0xB1 0x00 0x00 0x04 [])
     ∷ on (plains.asCoded 0x20) (shut Sle4418) image4418 (ask 0x20 0x00 0x00 0x02 (0x06 ∷ 0x07 ∷ []))

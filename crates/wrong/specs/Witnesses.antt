@@ -2,18 +2,18 @@
 use Prim.Native.Nat.{ℕ}
 use mathlib.Core.List.{List, [], _++_, map}
 use lib.ListN.{set}
-use lib.Count.{ones}
 use Rattle.words.specs.Bytes.{series}
 use Rattle.chips.specs.declared.Chip.the-variants.{I2c1}
 use Rattle.bits.specs.Bits.{firstProtected}
 use Rattle.slot.specs.Slots.{removed}
 use Rattle.reader.specs.Heard.{heard}
 use Rattle.vectors.specs.Parameters.{setting}
-use Rattle.vectors.specs.Sessions.{lent, selectedSlot, image4442, image4428, transfer}
+use Rattle.vectors.specs.Sessions.{lent, recounted, selectedSlot, image4442, image4428, transfer}
 use Rattle.vectors.specs.Plain.{image4418, image4432}
 use Rattle.wrong.specs.Caught.{Witness}
 use Rattle.wrong.specs.WrongReaders.{remembering, answersAgain, equalFree}
 use Rattle.wrong.specs.WrongStores.{storeParts}
+use Rattle.wrong.specs.WrongCounts.{countParts}
 use Rattle.wrong.specs.WrongCommands.{upToUnequal, cutFrom, backwards}
 use Rattle.wrong.specs.Inputs.{shut, memI2c, plain, ask, on}
 use Rattle.wrong.specs.MessageRows.{uselessRows, trapRows, buildRows, downRows, insertionRows, removalRows, answerRows, faultRows, powerRows}
@@ -21,6 +21,7 @@ use Rattle.wrong.specs.CommandRows.{stepOrderRows, stepRows1to5, stepRow
 use Rattle.wrong.specs.ParamRows.{paramRows, fiRows, diRows, goodFiRows, goodDiRows}
 use Rattle.wrong.specs.PlainRows.{plainRows, protectedRows}
 use Rattle.wrong.specs.StoreRows.{storeRows}
+use Rattle.wrong.specs.CountRows.{countRows}
 use Rattle.wrong.specs.WrongFaults as faults
 use Rattle.wrong.specs.WrongSteps as steps
 
@@ -74,6 +75,7 @@ wrongReaders =
     ++ plainRows
     ++ protectedRows
     ++ storeRows
+    ++ countRows
     ++ slotRows
     ++ typeRows
     ++ selectRows
@@ -85,6 +87,6 @@ wrongReaders =
 
 -- the table and its words at once, for what is proved by computing them
 unfoldable pub witnesses : ℕ
-unfolding ones lent selectedSlot image4442 image4428 image4418 image4432 transfer setting heard
-    remembering answersAgain equalFree storeParts firstProtected upToUnequal cutFrom backwards wrongReaders
+unfolding lent recounted selectedSlot image4442 image4428 image4418 image4432 transfer setting heard
+    remembering answersAgain equalFree storeParts countParts firstProtected upToUnequal cutFrom backwards wrongReaders
 witnesses = 0

@@ -14,7 +14,7 @@ use Rattle.sets.specs.Sets.{setOf}
 use Rattle.slot.specs.declared.Holds.{Holds}
 use Rattle.slot.specs.declared.Holds.the-variants.{Empty, Card}
 use Rattle.slot.specs.declared.Slot.{Slot}
-use Rattle.slot.specs.Slots.{inserted}
+use Rattle.counts.specs.Counts.{putIn}
 use Rattle.steps.specs.declared.Status.{Status}
 use Rattle.steps.specs.declared.Order.{Order}
 use Rattle.steps.specs.Steps.{wordOf, insOf, place, p3, body, ordered, order}
@@ -26,6 +26,7 @@ use Rattle.frame.specs.declared.Refusal.{Refusal}
 use Rattle.frame.specs.Exchange.{Outcome, turnedDown, answered, replied, reply, exchange, insertion}
 use Rattle.reader.specs.Runs.{Sent}
 use Rattle.reader.specs.Heard.{requested, transfers, heard}
+use Rattle.vectors.specs.Sessions.{recounted}
 use Rattle.promise.specs.Sequences.{sentWith}
 
 -- ---- what a reader is
@@ -78,6 +79,13 @@ stands s e = record { said = e .said; slot = s; image = e .image }
 abbrev pub leaves : List ℕ → Deed → Deed
 leaves image e = record { said = e .said; slot = e .slot; image = image }
 
+-- with the counts of the image that is left: an outcome, and what a command does
+abbrev pub recounting : Outcome → Outcome
+recounting o = slotting (recounted (o .image) (o .slot)) o
+
+abbrev pub recounts : Deed → Deed
+recounts e = stands (recounted (e .image) (e .slot)) e
+
 -- ---- our reader with one part put wrong. Each of these, given the rules' own part, is our reader (proofs/Parts).
 -- the card in the slot; nothing is a card of no bytes
 abbrev pub cardIn : Holds → Facts
@@ -89,6 +97,13 @@ unfoldable pub taking : (Facts → List ℕ → Bool) → Reader
 taking passes s image m room =
     let o = exchange s image m room in
     o .number is 3 and passes (cardIn (s .holds)) image ⇒ (sound s image ⇒ reply (requestOf (typeByte m)) s image m ⁏ turnedDown Refusal.Record s image)
+    ⁏ o
+
+-- test 4 turns other slot records down: those that `passes` does not take
+unfoldable pub refusing : (Slot → List ℕ → Bool) → Reader
+refusing passes s image m room =
+    let o = exchange s image m room in
+    o .number is 0 and not (passes s image) ⇒ turnedDown Refusal.Record s image
     ⁏ o
 
 -- test 4 is passed by other slot records: those that `passes` takes too
@@ -238,14 +253,14 @@ abbrev pub counterOf : Facts → List ℕ → ℕ
 counterOf f image = byte image (f .counter)
 
 abbrev pub counting : Facts → ℕ → Deed → Deed
-counting f c e = record { said = 0x90 ∷ c ∷ []; slot = e .slot; image = set (e .image) (f .counter) c }
+counting f c e = recounts (record { said = 0x90 ∷ c ∷ []; slot = e .slot; image = set (e .image) (f .counter) c })
 
 -- an insertion's test 3 is passed by other images: those that `passes` takes too
 unfoldable pub insertsAs : Known → (Facts → List ℕ → Bool) → Inserter
 insertsAs Unknown passes s kind image = insertion s kind image
 insertsAs (Is chip) passes s kind image =
     let o = insertion s kind image in
-    o .number is 3 and passes (facts chip) image ⇒ record { number = 0; answer = []; slot = inserted chip; image = image }
+    o .number is 3 and passes (facts chip) image ⇒ record { number = 0; answer = []; slot = putIn chip image; image = image }
     ⁏ o
 
 abbrev pub insertsBy : (Facts → List ℕ → Bool) → Inserter
@@ -257,5 +272,5 @@ uponInsert change s kind image = let o = insertion s kind image in o .number is 
 
 -- all of these at once, for what is proved by computing them
 unfoldable pub parts : ℕ
-unfolding oneByOne taking vetting faulting fielding upon commandingOn sooner letting barring doing atWrong atRight insertsAs uponInsert
+unfolding oneByOne taking refusing vetting faulting fielding upon commandingOn sooner letting barring doing atWrong atRight insertsAs uponInsert
 parts = 0

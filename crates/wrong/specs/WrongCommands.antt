@@ -15,7 +15,7 @@ use Rattle.slot.specs.declared.Slot.{Slot}
 use Rattle.slot.specs.Slots.{paged, powered, selecting, opened, closed}
 use Rattle.steps.specs.Steps.{place, p3, body}
 use Rattle.orders.specs.Orders.{Deed, done}
-use Rattle.wrong.specs.Wrong.{Reader, rowed, placed, tells, stands, leaves, doing, atWrong, atRight, counterOf, counting}
+use Rattle.wrong.specs.Wrong.{recounts, Reader, rowed, placed, tells, stands, leaves, doing, atWrong, atRight, counterOf, counting}
 use Rattle.wrong.specs.WrongReaders.{mirrored}
 use Rattle.wrong.specs.WrongFaults.{oneMore}
 
@@ -34,7 +34,7 @@ selectResetsPage = doing 0xA4 λ f s image d e. stands (paged 8 (e .slot)) e
 
 -- gives all tries back at A4
 abbrev pub selectGivesAll : Reader
-selectGivesAll = doing 0xA4 λ f s image d e. f .coded ⇒ leaves (set image (f .counter) (f .full)) e ⁏ e
+selectGivesAll = doing 0xA4 λ f s image d e. f .coded ⇒ recounts (leaves (set image (f .counter) (f .full)) e) ⁏ e
 
 -- sets a page twice as large at 01
 abbrev pub pagesDouble : Reader
@@ -155,7 +155,7 @@ changeCloses = doing 0xD2 λ f s image d e. stands (closed s) e
 
 -- stores D2's code from the counter on
 abbrev pub changesCounter : Reader
-changesCounter = doing 0xD2 λ f s image d e. leaves (sets image (f .counter) (body d)) e
+changesCounter = doing 0xD2 λ f s image d e. recounts (leaves (sets image (f .counter) (body d)) e)
 
 -- stores no code at D2
 abbrev pub changesNothing : Reader

@@ -13,10 +13,10 @@ use Rattle.chips.specs.declared.Facts.{Facts}
 use Rattle.chips.specs.Kinds.{chipOf}
 use Rattle.slot.specs.declared.Slot.{Slot}
 use Rattle.slot.specs.Slots.{occupied, ownType, removed, powered, selecting, paged, opened, closed}
-use Rattle.sound.specs.Sound.{fullCode, imageIsCard, pageSize, emptySound, idleSound, typeSound, openSound, setSound, sound}
+use Rattle.sound.specs.Sound.{fullCode, imageIsCard, pageSize, emptySound, idleSound, typeSound, openSound, setSound, countsSound, sound}
 use Rattle.frame.specs.declared.Refusal.{Refusal}
 use Rattle.frame.specs.Exchange.{turnedDown, exchange, insertion}
-use Rattle.wrong.specs.Wrong.{Reader, Inserter, Remover, numbering, saying, slotting, imaging, cardIn, taking, vetting, insertsBy, uponInsert}
+use Rattle.wrong.specs.Wrong.{recounting, Reader, Inserter, Remover, numbering, saying, slotting, imaging, cardIn, taking, vetting, insertsBy, uponInsert}
 
 -- ---- numbers 1 and 2
 -- takes an answer buffer of 270 bytes
@@ -72,59 +72,59 @@ looksAtNothing s image m room =
     ⁏ o
 
 -- ---- number 4, clause by clause: soundness without that clause. "Inactive means closed" cannot be missed alone: an open slot needs its type.
-abbrev pub setIs : Slot → Bool
-setIs s = setSound (s .holds) (s .set)
+abbrev pub restIs : Slot → List ℕ → Bool
+restIs s image = setSound (s .holds) (s .set) and countsSound s image
 
 -- lets any page size through
 abbrev pub anyPage : Reader
-anyPage = vetting λ s image. emptySound s and idleSound s and typeSound s and openSound s image and setIs s
+anyPage = vetting λ s image. emptySound s and idleSound s and typeSound s and openSound s image and restIs s image
 
 -- lets an empty slot through that is active
 abbrev pub emptyActive : Reader
 emptyActive = vetting λ s image.
-    pageSize (s .page) and (occupied (s .holds) or s .page is 8) and idleSound s and typeSound s and openSound s image and setIs s
+    pageSize (s .page) and (occupied (s .holds) or s .page is 8) and idleSound s and typeSound s and openSound s image and restIs s image
 
 -- lets an empty slot through whose page is not 8
 abbrev pub emptyPaged : Reader
 emptyPaged = vetting λ s image.
-    pageSize (s .page) and (occupied (s .holds) or not (s .active)) and idleSound s and typeSound s and openSound s image and setIs s
+    pageSize (s .page) and (occupied (s .holds) or not (s .active)) and idleSound s and typeSound s and openSound s image and restIs s image
 
 -- lets an inactive slot through that has a type
 abbrev pub idleTyped : Reader
 idleTyped = vetting λ s image.
-    pageSize (s .page) and emptySound s and (s .active or not (s .«open»)) and typeSound s and openSound s image and setIs s
+    pageSize (s .page) and emptySound s and (s .active or not (s .«open»)) and typeSound s and openSound s image and restIs s image
 
 -- lets an inactive slot through that has a type and is open
 abbrev pub idleOpen : Reader
-idleOpen = vetting λ s image. pageSize (s .page) and emptySound s and typeSound s and openSound s image and setIs s
+idleOpen = vetting λ s image. pageSize (s .page) and emptySound s and typeSound s and openSound s image and restIs s image
 
 -- lets a selected type through that is not the kind's own
 abbrev pub otherType : Reader
-otherType = vetting λ s image. pageSize (s .page) and emptySound s and idleSound s and openSound s image and setIs s
+otherType = vetting λ s image. pageSize (s .page) and emptySound s and idleSound s and openSound s image and restIs s image
 
 -- lets a card through that is open and no code card
 abbrev pub openPlain : Reader
 openPlain = vetting λ s image.
     pageSize (s .page) and emptySound s and idleSound s and typeSound s
-    and (s .«open» means (fullCode (s .holds) image or not (cardIn (s .holds) .coded)) and s .selected is ownType (s .holds)) and setIs s
+    and (s .«open» means (fullCode (s .holds) image or not (cardIn (s .holds) .coded)) and s .selected is ownType (s .holds)) and restIs s image
 
 -- lets a code card through that is open with no type
 abbrev pub openUntyped : Reader
 openUntyped = vetting λ s image.
-    pageSize (s .page) and emptySound s and idleSound s and typeSound s and (s .«open» means fullCode (s .holds) image) and setIs s
+    pageSize (s .page) and emptySound s and idleSound s and typeSound s and (s .«open» means fullCode (s .holds) image) and restIs s image
 
 -- lets a code card through that is open with a counter that is not full
 abbrev pub openSpent : Reader
 openSpent = vetting λ s image.
     pageSize (s .page) and emptySound s and idleSound s and typeSound s
-    and (s .«open» means cardIn (s .holds) .coded and s .selected is ownType (s .holds)) and setIs s
+    and (s .«open» means cardIn (s .holds) .coded and s .selected is ownType (s .holds)) and restIs s image
 
 -- lets a code card through that is open where the byte before its counter is full
 abbrev pub openBefore : Reader
 openBefore = vetting λ s image.
     pageSize (s .page) and emptySound s and idleSound s and typeSound s
     and (s .«open» means cardIn (s .holds) .coded and s .selected is ownType (s .holds)
-    and byte image (cardIn (s .holds) .counter - 1) is cardIn (s .holds) .full) and setIs s
+    and byte image (cardIn (s .holds) .counter - 1) is cardIn (s .holds) .full) and restIs s image
 
 -- ---- the order of the tests, and what a call that is turned down leaves
 -- tests 2 before 1
@@ -243,7 +243,7 @@ insertChipPage = uponInsert λ f s o. f .page is 0 ⇒ o ⁏ slotting (paged (f 
 
 -- gives all tries back at an insertion
 abbrev pub insertGivesAll : Inserter
-insertGivesAll = uponInsert λ f s o. f .coded ⇒ imaging (set (o .image) (f .counter) (f .full)) o ⁏ o
+insertGivesAll = uponInsert λ f s o. f .coded ⇒ recounting (imaging (set (o .image) (f .counter) (f .full)) o) ⁏ o
 
 -- erases the card at its insertion
 abbrev pub insertErases : Inserter

@@ -14,7 +14,7 @@ use Rattle.faults.specs.declared.Fault.{Fault}
 use Rattle.faults.specs.Faults.{typeByte, dwLength, bSlot, supported, badField, ready, isClear, faultOf}
 use Rattle.frame.specs.Answers.{bError}
 use Rattle.frame.specs.Exchange.{exchange}
-use Rattle.wrong.specs.Wrong.{Reader, slotting, imaging, marking, telling, cardIn, faulting, upon}
+use Rattle.wrong.specs.Wrong.{recounting, Reader, slotting, imaging, marking, telling, cardIn, faulting, upon}
 use Rattle.wrong.specs.WrongAnswers.{failed}
 
 -- ---- fault 1
@@ -201,12 +201,12 @@ oneMore f c = c is f .full ⇒ c ⁏ c + 2 ^ trailingZeros 8 (0xFF - c)
 abbrev pub givesTry : ℕ → Reader
 givesTry type = upon type λ s image o.
     let f = cardIn (s .holds) in
-    f .coded ⇒ imaging (set (o .image) (f .counter) (oneMore f (byte (o .image) (f .counter)))) o
+    f .coded ⇒ recounting (imaging (set (o .image) (f .counter) (oneMore f (byte (o .image) (f .counter)))) o)
     ⁏ o
 
 -- gives all tries back at this type
 abbrev pub givesAll : ℕ → Reader
 givesAll type = upon type λ s image o.
     let f = cardIn (s .holds) in
-    f .coded ⇒ imaging (set (o .image) (f .counter) (f .full)) o
+    f .coded ⇒ recounting (imaging (set (o .image) (f .counter) (f .full)) o)
     ⁏ o

@@ -8,7 +8,7 @@ use Rattle.words.specs.Choice.{_⇒_⁏_, _and_, _or_, _is_, _isnt_}
 use Rattle.words.specs.Bytes.{byte, numberIn, byteOf, series}
 use Rattle.sets.specs.Sets.{defaultSet, protocolOf, factors, checksum, waiting, clockStop, nad, bytesOf, reservedFI, reservedDI, upperBits, longWait, faultAt, setOf, takes}
 use Rattle.slot.specs.Slots.{occupied, removed, powered, setAs, defaulted}
-use Rattle.sound.specs.Sound.{pageSize, emptySound, idleSound, typeSound, openSound}
+use Rattle.sound.specs.Sound.{pageSize, emptySound, idleSound, typeSound, openSound, countsSound}
 use Rattle.faults.specs.declared.Fault.{Fault}
 use Rattle.faults.specs.Faults.{typeByte, dwLength, isClear, faultOf}
 use Rattle.frame.specs.Answers.{bError}
@@ -217,16 +217,17 @@ removeKeepsSet s = setAs (s .set) removed
 abbrev pub anySet : Reader
 anySet = vetting λ s image.
     pageSize (s .page) and emptySound s and idleSound s and typeSound s and openSound s image and (occupied (s .holds) or s .set is defaultSet)
+    and countsSound s image
 
 -- does not look at the two bytes that T=0 lacks
 abbrev pub tailUnseen : Reader
 tailUnseen = vetting λ s image.
-    pageSize (s .page) and emptySound s and idleSound s and typeSound s and openSound s image and occupied (s .holds)
+    pageSize (s .page) and emptySound s and idleSound s and typeSound s and openSound s image and occupied (s .holds) and countsSound s image
     and takes (protocolOf (s .set) is 0 ⇒ bytePut 6 0 (bytePut 7 0 (s .set)) ⁏ s .set)
 
 -- lets a slot without a card through whose parameters are not the default
 abbrev pub emptySet : Reader
-emptySet = vetting λ s image. pageSize (s .page) and emptySound s and idleSound s and typeSound s and openSound s image and takes (s .set)
+emptySet = vetting λ s image. pageSize (s .page) and emptySound s and idleSound s and typeSound s and openSound s image and takes (s .set) and countsSound s image
 
 -- turns every slot down whose parameters are not the default
 abbrev pub defaultAlone : Reader

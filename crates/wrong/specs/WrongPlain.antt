@@ -18,7 +18,7 @@ use Rattle.steps.specs.Steps.{place, p3, body, needsOpen}
 use Rattle.orders.specs.Orders.{done, commanded}
 use Rattle.frame.specs.declared.Refusal.{Refusal}
 use Rattle.frame.specs.Exchange.{turnedDown, exchange, insertion}
-use Rattle.wrong.specs.Wrong.{Reader, Inserter, slotting, imaging, telling, tells, stands, leaves, cardIn}
+use Rattle.wrong.specs.Wrong.{recounts, recounting, Reader, Inserter, slotting, imaging, telling, tells, stands, leaves, cardIn}
 use Rattle.wrong.specs.Wrong.{taking, insertsBy, uponInsert, upon, commanding, letting, barring, doing}
 use Rattle.wrong.specs.WrongDowns.{sizeFits, counterFits, ownBitFits}
 use Rattle.wrong.specs.WrongSteps.{ins, upTo}
@@ -131,20 +131,20 @@ blanks3FE = doing 0xB0 λ f s image d e. f .kind is 21 ⇒ tells (bytesRead 0x3F
 -- ---- protected bytes
 -- protects what D0 stores
 abbrev pub writeProtects : Reader
-writeProtects = doing 0xD0 λ f s image d e. leaves (protectEqual (f .bits) (f .covered) (e .image) (place d) (body d)) e
+writeProtects = doing 0xD0 λ f s image d e. recounts (leaves (protectEqual (f .bits) (f .covered) (e .image) (place d) (body d)) e)
 
 -- frees the eight bytes of a protection byte where D1's first byte is another than the stored one
 abbrev pub protectFrees : Reader
 protectFrees = doing 0xD1 λ f s image d e.
-    leaves (byte d 5 is byte image (place d) ⇒ e .image ⁏ set (e .image) (f .bits + place d / 8) 0xFF) e
+    recounts (leaves (byte d 5 is byte image (place d) ⇒ e .image ⁏ set (e .image) (f .bits + place d / 8) 0xFF) e)
 
 -- protects all eight bytes of a protection byte at D1
 abbrev pub protectsEight : Reader
-protectsEight = doing 0xD1 λ f s image d e. leaves (set (e .image) (f .bits + place d / 8) 0x00) e
+protectsEight = doing 0xD1 λ f s image d e. recounts (leaves (set (e .image) (f .bits + place d / 8) 0x00) e)
 
 -- frees every byte at power on
 abbrev pub powerFrees : Reader
-powerFrees = upon 0x62 λ s image o. imaging (freed (cardIn (s .holds)) (o .image)) o
+powerFrees = upon 0x62 λ s image o. recounting (imaging (freed (cardIn (s .holds)) (o .image)) o)
 
 -- frees every byte where a message fails
 abbrev pub failureFrees : Reader

@@ -249,7 +249,7 @@ wrongPrinters =
     ∷ (doneBy slotForgotten on insert 1 (image1 0) ++ status)
     ∷ (doneBy imageForgotten on insert 1 (image1 0) ++ powerRecord ++ selectRecord ++ write3 ++ read3)
     -- starts with the card that the last session left
-    ∷ ((λ (input : List ℕ). by rightParts (length input + 1) input (inserted I2c1) (image1 0)) on status)
+    ∷ ((λ (input : List ℕ). by rightParts (length input + 1) input (inserted I2c1 0 0) (image1 0)) on status)
     ∷ ((λ (input : List ℕ). goesOn (length input + 1) input removed []) on recorded 0x43 0x4F (0 ∷ []) ++ remove)
     ∷ []
 

@@ -15,7 +15,7 @@ use Rattle.orders.specs.Orders.{done, written}
 use Rattle.frame.specs.declared.Refusal.{Refusal}
 use Rattle.frame.specs.Exchange.{Outcome, turnedDown, exchange}
 use Rattle.reader.specs.Runs.{Sent, sending}
-use Rattle.wrong.specs.Wrong.{Reader, Runner, saying, slotting, imaging, tells, stands, leaves, doing, atWrong, atRight, counterOf, counting}
+use Rattle.wrong.specs.Wrong.{recounts, Reader, Runner, saying, slotting, imaging, tells, stands, leaves, doing, atWrong, atRight, counterOf, counting}
 
 -- ---- the five useless readers
 -- turns every message down, as number 1
@@ -48,7 +48,7 @@ inventsRead = doing 0xB1 λ f s image d e. tells (f .full ∷ replicate (p3 d - 
 
 -- leaves an invented counter in the image after 20: a full one
 abbrev pub inventsImage : Reader
-inventsImage = doing 0x20 λ f s image d e. leaves (set (e .image) (f .counter) (f .full)) e
+inventsImage = doing 0x20 λ f s image d e. recounts (leaves (set (e .image) (f .counter) (f .full)) e)
 
 -- ---- the six traps
 -- a message that is like the last one gives what the last one gave, and nothing is done
@@ -68,7 +68,7 @@ resends = remembering λ last m. same (take 1 (drop 6 last)) (take 1 (drop 6 m))
 
 -- compares before looking at the counter: the right code opens a card with no tries left
 abbrev pub comparesFirst : Reader
-comparesFirst = atRight λ f s image d e. stands (opened s) (counting f (f .full) e)
+comparesFirst = atRight λ f s image d e. recounts (stands (opened s) (counting f (f .full) e))
 
 -- takes a dwLength smaller than the bytes that came, and drops the rest
 abbrev pub believesSmaller : Reader

@@ -10,12 +10,12 @@ use lib.IntN.{ℤ, pos, negsuc}
 use Rattle.words.specs.Choice.{_⇒_⁏_, _and_, _is_, _isnt_}
 use Rattle.words.specs.Bytes.{byte, same, lowFirst}
 use Rattle.words.specs.Bounds.{leastRoom}
-use Rattle.chips.specs.declared.Chip.the-variants.{I2c1, Sle4442}
+use Rattle.chips.specs.declared.Chip.the-variants.{I2c1, Sle4418, Sle4442}
 use Rattle.chips.specs.declared.Known.{Known}
 use Rattle.chips.specs.declared.Known.the-variants.{Is, Unknown}
 use Rattle.chips.specs.Kinds.{chipOf}
 use Rattle.sets.specs.Sets.{defaultSet}
-use Rattle.slot.specs.Slots.{removed, inserted}
+use Rattle.slot.specs.Slots.{removed}
 use Rattle.record.specs.declared.Reading.{Reading}
 use Rattle.record.specs.Raw.{rawOf, slotOf}
 use Rattle.frame.specs.declared.Refusal.{Refusal}
@@ -23,10 +23,12 @@ use Rattle.frame.specs.declared.Verdict.{Verdict}
 use Rattle.reader.specs.declared.Meant.{Meant}
 use Rattle.reader.specs.Fronts.{frontOf}
 use Rattle.calls.specs.Calls.{RawOutcome, rawDown, rawServed, rawExchange, rawInsertion, rawRemoval, RawGives, resultOf}
-use Rattle.vectors.specs.Sessions.{image4442}
+use Rattle.vectors.specs.Sessions.{recounted, fresh, image4442, wrong4442}
+use Rattle.vectors.specs.Plain.{image4418}
 use Rattle.promise.specs.Visits.{select}
 use Rattle.wrong.specs.ParamRows.{good1, stored}
-use Rattle.wrong.specs.Inputs.{bare, shut, wide, mem4442, memI2c, plain}
+use Rattle.wrong.specs.CountRows.{kept255}
+use Rattle.wrong.specs.Inputs.{bare, shut, wide, mem4442, kept4442, memI2c, plain, ask}
 
 -- ---- what a reader of a raw record is: of a message (record, image, message, length of the answer buffer), of an insertion, of a removal; and
 -- what C gets of a refusal's number and an answer's length
@@ -68,7 +70,7 @@ uponAnswer change r image m room = let o = rawExchange r image m room in o .numb
 -- ---- reading the record
 -- does not look at the rest of the record
 abbrev pub rawAnyRest : RawReader
-rawAnyRest = recordBy λ r. slotOf (length r is 32 ⇒ take 13 r ++ replicate 19 0 ⁏ r)
+rawAnyRest = recordBy λ r. slotOf (length r is 32 ⇒ take 16 r ++ replicate 16 0 ⁏ r)
 
 -- does not look at the last byte of the record
 abbrev pub rawLastUnseen : RawReader
@@ -105,6 +107,18 @@ rawProtocolLast = recordBy λ r. slotOf (length r is 32 ⇒ take 5 r ++ take 7 (
 -- does not look at the last byte of the parameters
 abbrev pub rawNadUnseen : RawReader
 rawNadUnseen = recordBy λ r. slotOf (length r is 32 ⇒ set r 12 0 ⁏ r)
+
+-- takes the number of protected bytes high byte first
+abbrev pub rawHighFirst : RawReader
+rawHighFirst = recordBy λ r. slotOf (set (set r 14 (byte r 15)) 15 (byte r 14))
+
+-- does not look at the high byte of the number of protected bytes
+abbrev pub rawHighUnseen : RawReader
+rawHighUnseen = recordBy λ r. slotOf (length r is 32 ⇒ set r 15 0 ⁏ r)
+
+-- takes the low byte of the number of protected bytes for tries left, and tries left for it
+abbrev pub rawTriesForCount : RawReader
+rawTriesForCount = recordBy λ r. slotOf (set (set r 13 (byte r 14)) 14 (byte r 13))
 
 -- takes kind 0 for an unknown kind
 abbrev pub rawNoneUnknown : RawReader
@@ -151,6 +165,18 @@ rawSetStays = uponAnswer λ r o. rawing (take 5 (o .raw) ++ take 8 (drop 5 r) ++
 abbrev pub rawFiveBytes : RawReader
 rawFiveBytes = uponAnswer λ r o. rawing (sets (o .raw) 11 (0 ∷ 0 ∷ [])) o
 
+-- leaves tries left as they were
+abbrev pub rawTriesStay : RawReader
+rawTriesStay = uponAnswer λ r o. rawMarking 13 (byte r 13) o
+
+-- leaves the number of protected bytes as it was
+abbrev pub rawCountStays : RawReader
+rawCountStays = uponAnswer λ r o. rawMarking 14 (byte r 14) (rawMarking 15 (byte r 15) o)
+
+-- leaves the high byte of the number of protected bytes as it was
+abbrev pub rawHighStays : RawReader
+rawHighStays = uponAnswer λ r o. rawMarking 15 (byte r 15) o
+
 -- forgets the card after a message
 abbrev pub rawForgetsCard : RawReader
 rawForgetsCard = uponAnswer λ r o. rawMarking 0 0 o
@@ -178,7 +204,7 @@ rawInsertsAnyLength r kind image = rawInsertion (take 32 r) kind image
 
 -- leaves the rest of the record as it was at an insertion
 abbrev pub rawInsertKeepsRest : RawInserter
-rawInsertKeepsRest r kind image = let o = rawInsertion r kind image in o .number is 0 ⇒ rawing (take 13 (o .raw) ++ drop 13 r) o ⁏ o
+rawInsertKeepsRest r kind image = let o = rawInsertion r kind image in o .number is 0 ⇒ rawing (take 16 (o .raw) ++ drop 16 r) o ⁏ o
 
 -- leaves the parameters of the record as they were at an insertion
 abbrev pub rawInsertKeepsSet : RawInserter
@@ -187,14 +213,25 @@ rawInsertKeepsSet r kind image =
     o .number is 0 ⇒ rawing (take 5 (o .raw) ++ take 8 (drop 5 r) ++ drop 13 (o .raw)) o
     ⁏ o
 
+-- leaves the counts of the record as they were at an insertion
+abbrev pub rawInsertKeepsCounts : RawInserter
+rawInsertKeepsCounts r kind image =
+    let o = rawInsertion r kind image in
+    o .number is 0 ⇒ rawing (take 13 (o .raw) ++ take 3 (drop 13 r) ++ drop 16 (o .raw)) o
+    ⁏ o
+
 -- ---- removal
+-- leaves the counts of the record as they were at a removal
+abbrev pub rawRemovalKeepsCounts : RawRemover
+rawRemovalKeepsCounts r = let o = rawRemoval r in o .number is 0 ⇒ rawing (take 13 (o .raw) ++ take 3 (drop 13 r) ++ drop 16 (o .raw)) o ⁏ o
+
 -- leaves the record as it was at a removal
 abbrev pub rawRemovalLeaves : RawRemover
 rawRemovalLeaves r = rawing r (rawRemoval r)
 
 -- leaves the rest of the record as it was at a removal
 abbrev pub rawRemovalKeepsRest : RawRemover
-rawRemovalKeepsRest r = let o = rawRemoval r in o .number is 0 ⇒ rawing (take 13 (o .raw) ++ drop 13 r) o ⁏ o
+rawRemovalKeepsRest r = let o = rawRemoval r in o .number is 0 ⇒ rawing (take 16 (o .raw) ++ drop 16 r) o ⁏ o
 
 -- makes the parameters 00h at a removal
 abbrev pub rawRemovalZeroes : RawRemover
@@ -269,17 +306,17 @@ EachRawRefuted (w ∷ ws) = RawRefuted w × EachRawRefuted ws
 -- ---- the table
 -- the card's record, one with a T=1 set, and an empty one
 abbrev pub cardRecord : List ℕ
-cardRecord = rawOf (shut Sle4442)
+cardRecord = rawOf (recounted mem4442 (shut Sle4442))
 
 abbrev pub t1Record : List ℕ
-t1Record = rawOf (stored 1 good1)
+t1Record = rawOf (recounted mem4442 (stored 1 good1))
 
 abbrev pub emptyRecord : List ℕ
 emptyRecord = rawOf removed
 
 unfoldable pub wrongRecords : List RawWitness
 wrongRecords =
-    byRawMessage rawAnyRest (set cardRecord 13 0x01) mem4442 (plain 0x65)
+    byRawMessage rawAnyRest (set cardRecord 16 0x01) mem4442 (plain 0x65)
     ∷ byRawMessage rawLastUnseen (set cardRecord 31 0x01) mem4442 (plain 0x65)
     ∷ byRawMessage rawActive2 (set cardRecord 1 0x02) mem4442 (plain 0x65)
     ∷ byRawMessage rawOpen2 (set cardRecord 4 0x02) mem4442 (plain 0x65)
@@ -293,15 +330,15 @@ wrongRecords =
     ∷ byRawMessage rawUnknownNone (set emptyRecord 0 0xFF) [] (plain 0x65)
     ∷ byRawMessage rawUnknown4 (set emptyRecord 0 0xFF) [] (plain 0x65)
     ∷ byRawMessage rawLengthFirst (take 31 cardRecord) (image4442 0x08) (plain 0x65)
-    ∷ byRawMessage rawStays (rawOf (inserted Sle4442)) mem4442 (plain 0x62)
-    ∷ byRawMessage rawOpenStays (rawOf (wide Sle4442)) mem4442 (plain 0x62)
-    ∷ byRawMessage rawTypeOverPage (rawOf (bare Sle4442)) mem4442 (select 0x06)
+    ∷ byRawMessage rawStays (rawOf (recounted mem4442 (fresh Sle4442))) mem4442 (plain 0x62)
+    ∷ byRawMessage rawOpenStays (rawOf (recounted mem4442 (wide Sle4442))) mem4442 (plain 0x62)
+    ∷ byRawMessage rawTypeOverPage (rawOf (recounted mem4442 (bare Sle4442))) mem4442 (select 0x06)
     ∷ byRawMessage rawSetStays t1Record mem4442 (plain 0x6D)
     ∷ byRawMessage rawFiveBytes t1Record mem4442 (plain 0x65)
     ∷ byRawMessage rawForgetsCard cardRecord mem4442 (plain 0x65)
     ∷ byRawMessage rawDownEmpties cardRecord (image4442 0x08) (plain 0x65)
     ∷ byRawInsertion rawInsertsOver (rawOf (shut I2c1)) 30 mem4442
-    ∷ byRawInsertion rawInsertsIdle (rawOf (inserted I2c1)) 30 mem4442
+    ∷ byRawInsertion rawInsertsIdle (rawOf (fresh I2c1)) 30 mem4442
     ∷ byRawInsertion rawInsertVets (set emptyRecord 31 0x01) 30 mem4442
     ∷ byRawInsertion rawInsertsAnyLength (emptyRecord ++ (0x00 ∷ [])) 30 mem4442
     ∷ byRawInsertion rawInsertKeepsRest (set emptyRecord 31 0x01) 1 memI2c
@@ -315,6 +352,14 @@ wrongRecords =
     ∷ byResult tellsMinus1 4 0
     ∷ byResult tellsOneLess 1 0
     ∷ byResult tellsNoLength 0 10
+    ∷ byRawMessage rawHighFirst (rawOf (recounted kept4442 (shut Sle4442))) kept4442 (plain 0x65)
+    ∷ byRawMessage rawHighUnseen (set cardRecord 15 0x01) mem4442 (plain 0x65)
+    ∷ byRawMessage rawTriesForCount cardRecord mem4442 (plain 0x65)
+    ∷ byRawMessage rawTriesStay cardRecord mem4442 wrong4442
+    ∷ byRawMessage rawCountStays (rawOf (recounted image4418 (shut Sle4418))) image4418 (ask 0xD1 0x00 0x00 0x01 (0xA2 ∷ []))
+    ∷ byRawMessage rawHighStays (rawOf (recounted kept255 (shut Sle4418))) kept255 (ask 0xD1 0x00 0x00 0x01 (0xA2 ∷ []))
+    ∷ byRawInsertion rawInsertKeepsCounts emptyRecord 30 mem4442
+    ∷ byRawRemoval rawRemovalKeepsCounts cardRecord
     ∷ []
 
 -- all of these at once, for what is proved by computing them

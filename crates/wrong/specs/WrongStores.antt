@@ -18,7 +18,7 @@ use Rattle.slot.specs.Slots.{closed}
 use Rattle.steps.specs.declared.Status.{Status}
 use Rattle.steps.specs.Steps.{place, p3, body}
 use Rattle.orders.specs.Orders.{done, unequal, writtenWord}
-use Rattle.wrong.specs.Wrong.{Reader, Twist, marking, tells, stands, leaves, upon, barring, doing}
+use Rattle.wrong.specs.Wrong.{recounts, Reader, Twist, marking, tells, stands, leaves, upon, barring, doing}
 use Rattle.wrong.specs.WrongPlain.{freed}
 
 -- byte k is protected; one of n bytes from `at` on is
@@ -179,11 +179,11 @@ unequalCloses = atUnequal λ f s image d e. stands (closed s) e
 
 -- burns a try at 65 81
 abbrev pub unequalBurns : Reader
-unequalBurns = atUnequal λ f s image d e. leaves (spending (f .counter) (e .image)) e
+unequalBurns = atUnequal λ f s image d e. recounts (leaves (spending (f .counter) (e .image)) e)
 
 -- frees every byte at 65 81
 abbrev pub unequalFrees : Reader
-unequalFrees = atUnequal λ f s image d e. leaves (freed f (e .image)) e
+unequalFrees = atUnequal λ f s image d e. recounts (leaves (freed f (e .image)) e)
 
 -- tells 65 81 as a failed message
 abbrev pub unequalFails : Reader

@@ -24,7 +24,7 @@ impl Maker {
             return image;
         }
         let bits = chip.protection..chip.protection + chip.protectable / 8;
-        match rng.below(12) {
+        match rng.below(17) {
             0 => image[bits].fill(0x00),
             1 => {}
             2 | 3 => {
@@ -34,6 +34,11 @@ impl Maker {
             }
             // Every second byte is protected.
             4 => image[bits].fill(rng.pick(&[0x55, 0xaa])),
+            // So many protected bytes that their number is at a border.
+            12.. => {
+                let count = self.border(chip);
+                self.protect_bytes(chip, &mut image, count);
+            }
             // Some runs, or single bytes.
             which => {
                 image[bits.clone()].fill(0xff);
@@ -57,6 +62,7 @@ impl Maker {
         if !chip.has_code() {
             return image;
         }
+        let rng = &mut self.rng;
         let code = match rng.below(4) {
             0 => vec![0xff; chip.code.len()],
             1 => vec![0x00; chip.code.len()],

@@ -1,5 +1,6 @@
 //! Trial cases: whole states, most of them sound.
 
+use super::counts::counts;
 use super::{chip_of, Maker, Rng, Stream};
 use crate::case::{raw, Case, LONGEST_BUFFER, LONGEST_MESSAGE, RECORD, REST};
 use crate::count::Count;
@@ -84,7 +85,12 @@ impl Maker {
             return;
         }
         let chip = self.any_chip();
-        self.reader.image = self.image(chip);
+        self.state_of(chip);
+    }
+
+    /// A sound slot with a card of that chip.
+    pub(super) fn state_of(&mut self, chip: &Chip) {
+        self.reader = Reader { slot: Slot::empty(), image: self.image(chip) };
         self.reader.slot.parameters = self.any_set();
         self.reader.slot.page = self.any_page();
         let slot = &mut self.reader.slot;
@@ -94,6 +100,7 @@ impl Maker {
             slot.selected = chip.select;
             slot.open = chip.has_code() && self.reader.image[chip.counter] == chip.full && self.rng.chance(60);
         }
+        self.store_counts();
     }
 
     /// A reader page, most often the largest, with which a write runs round on every I2C chip.
@@ -101,28 +108,40 @@ impl Maker {
         self.rng.pick(&[8, 16, 32, 64, 128, 128])
     }
 
-    /// A D0 on a card with protection bits, which has its type selected and is open where it has a
-    /// code.
-    fn any_write(&mut self) -> Vec<u8> {
+    /// A D0 or D1 on a card with protection bits, which has its type selected and is open where it
+    /// has a code.
+    fn any_change(&mut self, ins: u8) -> Vec<u8> {
         let chip = chip_of(self.rng.pick(&[20, 20, 21, 30, 31]));
-        let (mut image, open) = (self.image(chip), chip.has_code());
-        if open {
+        let mut image = self.image(chip);
+        if ins == 0xd1 && self.rng.chance(60) {
+            let count = self.border(chip);
+            self.protect_bytes(chip, &mut image, count);
+        }
+        if chip.has_code() {
             fill_counter(chip.kind, &mut image);
         }
-        let (page, parameters) = (self.any_page(), self.any_set());
-        let slot = Slot { kind: chip.kind, active: true, selected: chip.select, page, open, parameters };
-        self.reader = Reader { slot, image };
-        let apdu = self.command(0xd0, chip.select);
+        self.reader = Reader { slot: self.selected_slot(chip), image };
+        self.reader.slot.open = chip.has_code();
+        self.store_counts();
+        let apdu = self.command(ins, chip.select);
         self.ccid(0x6f, &apdu)
+    }
+
+    /// An active card that has its type selected, closed; its counts are still to come.
+    fn selected_slot(&mut self, chip: &Chip) -> Slot {
+        let (page, parameters) = (self.any_page(), self.any_set());
+        Slot { kind: chip.kind, active: true, selected: chip.select, page, parameters, ..Slot::empty() }
     }
 
     /// A case: mostly sound, else with one fault or several.
     fn case(&mut self, count: &mut Count) -> Case {
-        let message = if self.rng.chance(12) {
-            self.any_write()
-        } else {
-            self.any_state();
-            self.message()
+        let message = match self.rng.below(100) {
+            0..=11 => self.any_change(0xd0),
+            12..=20 => self.any_change(0xd1),
+            _ => {
+                self.any_state();
+                self.message()
+            }
         };
         let mut case = Case {
             record: raw(&self.reader.slot),
@@ -169,8 +188,10 @@ impl Maker {
 
     /// Puts a fault into the record: which one, and whether it stands alone.
     fn unsound(&mut self, case: &mut Case) -> (String, bool) {
-        if self.rng.chance(50) {
-            return (self.unsound_set(case).to_string(), true);
+        match self.rng.below(100) {
+            0..=31 => return (self.unsound_set(case).to_string(), true),
+            32..=67 => return (self.unsound_counts(case), true),
+            _ => {}
         }
         // Every rest byte has to be at fault, so that fault comes more often.
         let faults = RECORD_FAULTS.len();
@@ -187,8 +208,7 @@ impl Maker {
         let mut other_card = |maker: &mut Maker, kind: u8| {
             if let Some(chip) = Chip::of(kind) {
                 case.image = maker.image(chip);
-                let (page, parameters) = (maker.any_page(), maker.any_set());
-                slot = Slot { kind, active: true, selected: chip.select, page, open: false, parameters };
+                slot = maker.selected_slot(chip);
             }
         };
         match fault {
@@ -266,6 +286,8 @@ impl Maker {
                 return (format!("rest byte {} not 00h", k), true);
             }
         }
+        // The counts are right, so that the fault stands alone.
+        (slot.tries, slot.protected) = counts(slot.kind, &case.image);
         case.record = raw(&slot);
         (fault.to_string(), true)
     }

@@ -19,10 +19,10 @@ const ON_CLOSED: [(usize, u8); 8] =
     [(5, 0xa4), (23, 0xb0), (8, 0xb1), (8, 0xb2), (6, 0xd0), (4, 0xd1), (41, 0x20), (5, 0xd2)];
 #[rustfmt::skip]
 const ON_OPEN: [(usize, u8); 8] =
-    [(3, 0xa4), (22, 0xb0), (6, 0xb1), (8, 0xb2), (38, 0xd0), (11, 0xd1), (5, 0x20), (7, 0xd2)];
+    [(3, 0xa4), (22, 0xb0), (6, 0xb1), (8, 0xb2), (38, 0xd0), (18, 0xd1), (5, 0x20), (7, 0xd2)];
 #[rustfmt::skip]
 const ON_WITHOUT_CODE: [(usize, u8); 8] =
-    [(4, 0xa4), (24, 0xb0), (5, 0xb1), (11, 0xb2), (28, 0xd0), (18, 0xd1), (5, 0x20), (5, 0xd2)];
+    [(4, 0xa4), (24, 0xb0), (5, 0xb1), (11, 0xb2), (28, 0xd0), (24, 0xd1), (5, 0x20), (5, 0xd2)];
 
 /// Places and lengths around the counter and the code of a 4428, and the same bytes of a 4418.
 #[rustfmt::skip]
@@ -124,7 +124,7 @@ impl Maker {
             (0xb2, _) => plain(0, 4),
             (0xd0, _) => {
                 let about = match self.chip() {
-                    Some(chip) if chip.has_bits() && self.rng.chance(45) => self.span_about_protected(chip),
+                    Some(chip) if chip.has_bits() && self.rng.chance(45) => self.span_about(chip, true),
                     _ => None,
                 };
                 let (place, count) = match about {
@@ -136,18 +136,23 @@ impl Maker {
                 brought(place, data)
             }
             (0xd1, _) => {
-                let (place, count) = match (form, self.reader.slot.kind) {
-                    (0x05, 21) if self.rng.chance(35) => self.rng.pick(&NEAR_CODE),
-                    (0x05, 21) => self.span(0x400),
-                    (0x05, _) => self.span(0x3fd),
-                    _ => self.span(32),
+                let end = match (form, self.reader.slot.kind) {
+                    (0x05, 21) => 0x400,
+                    (0x05, _) => 0x3fd,
+                    _ => 32,
                 };
-                let mut data = self.stored(place, count);
-                // Some bytes differ from the stored ones, and are passed over.
-                for _ in 0..self.rng.below(3) {
-                    let k = self.rng.below(count);
-                    data[k] ^= 1 << self.rng.below(8);
-                }
+                let protected = self.rng.chance(40);
+                let about = match self.chip() {
+                    Some(chip) if chip.has_bits() && self.rng.chance(60) => self.span_about(chip, protected),
+                    _ => None,
+                };
+                let (place, count) = match about {
+                    Some((place, count)) if place < end => (place, count.min(end - place)),
+                    _ if end == 0x400 && self.rng.chance(50) => self.rng.pick(&NEAR_CODE),
+                    _ if end > 255 && self.rng.chance(12) => (self.rng.below(end - 254), 255),
+                    _ => self.span(end),
+                };
+                let data = self.protect_data(place, count);
                 brought(place, data)
             }
             (0x20, _) => {
@@ -181,13 +186,14 @@ impl Maker {
     }
 
     /// A place and a count in the memory: protected bytes alone, or a range that begins or ends with
-    /// one or has one inside. Nothing where no byte is protected.
-    fn span_about_protected(&mut self, chip: &Chip) -> Option<(usize, usize)> {
+    /// one or has one inside; or the same with bytes that may be protected and are not. Nothing where
+    /// there is no such byte.
+    fn span_about(&mut self, chip: &Chip, protected: bool) -> Option<(usize, usize)> {
         let (image, rng) = (&self.reader.image, &mut self.rng);
-        let protected = |k: &usize| chip.protected(image, *k);
+        let such = |&k: &usize| k < chip.protectable && k != chip.counter && chip.protected(image, k) == protected;
         let from = rng.below(chip.protectable);
-        let first = (from..chip.protectable).chain(0..from).find(protected)?;
-        let run = (first..).take_while(protected).count().min(255);
+        let first = (from..chip.protectable).chain(0..from).find(such)?;
+        let run = (first..).take_while(such).count().min(255);
         let count = if rng.chance(70) { 2 + rng.below(8) } else { 2 + rng.below(254) };
         let (place, count) = match rng.below(5) {
             0 => (first, if rng.chance(50) { run } else { 1 + rng.below(run) }),
@@ -217,6 +223,20 @@ impl Maker {
         if self.rng.chance(60) {
             let other = self.rng.pick(&[protected[0], protected[protected.len() - 1]]);
             data[other] ^= 1 << self.rng.below(8);
+        }
+        data
+    }
+
+    /// Bytes for a D1: of the protected ones and of the others, all, some or none are those that stand
+    /// there.
+    fn protect_data(&mut self, place: usize, count: usize) -> Vec<u8> {
+        let mut data = self.stored(place, count);
+        let (old, new) = (self.rng.pick(&[0, 40, 40, 100]), self.rng.pick(&[0, 0, 40, 40, 100]));
+        for (k, byte) in data.iter_mut().enumerate() {
+            let protected = self.chip().map_or(false, |chip| chip.protected(&self.reader.image, place + k));
+            if self.rng.chance(if protected { old } else { new }) {
+                *byte ^= 1 << self.rng.below(8);
+            }
         }
         data
     }

@@ -1,5 +1,6 @@
 //! Parameter sets: those that 61h takes, those that it does not, and stored ones that are unsound.
 
+use super::counts::counts;
 use super::Maker;
 use crate::case::{raw, Case, PROTOCOL};
 use crate::parameters::{Parameters, RESERVED_DI, RESERVED_FI};
@@ -157,6 +158,7 @@ impl Maker {
         if !fault.card {
             slot = Slot::empty();
         }
+        (slot.tries, slot.protected) = counts(slot.kind, &case.image);
         if fault.card || fault.protocol == 1 {
             slot.parameters = self.good_set(fault.protocol);
         }

@@ -32,6 +32,7 @@ pub fn sessions(seed: u64, index: u64, messages: usize, count: &mut Count) -> St
         stream: Stream { parts: Vec::new(), lines: Vec::new(), starts: Vec::new() },
         messages: 0,
         befell: None,
+        changed: None,
         count,
     };
     while making.messages < messages {
@@ -49,6 +50,9 @@ struct Making<'a> {
     messages: usize,
     /// What last befell the parameter set, until a 6Ch tells it.
     befell: Option<&'static str>,
+    /// What the record just before did to tries left or the number of protected bytes, and on which
+    /// kind.
+    changed: Option<(u8, &'static str)>,
     count: &'a mut Count,
 }
 
@@ -66,8 +70,11 @@ impl Making<'_> {
         let line = line.unwrap_or_else(|| "bad".to_string());
         match &record {
             Record::Insert(_) if line == "in 0" => {
-                self.count.add(format!("in 0: kind {}", reader.slot.kind));
-                if reader.slot.kind == 21 && chip_of(21).protected(&reader.image, 0x3fd) {
+                let slot = &reader.slot;
+                self.count.add(format!("in 0: kind {}", slot.kind));
+                self.count.add(format!("in 0: kind {}, {} tries", slot.kind, slot.tries));
+                self.count.add(format!("in 0: kind {}, {} protected", slot.kind, slot.protected));
+                if slot.kind == 21 && chip_of(21).protected(&reader.image, 0x3fd) {
                     self.count.add("in 0: kind 21, bit for 3FDh is 0".to_string());
                 }
             }
@@ -80,16 +87,34 @@ impl Making<'_> {
                     self.count.add("an equal message again".to_string());
                 }
                 match line.strip_prefix("msg 0 ") {
-                    Some(answer) => self.count.answer(&before, message, answer),
+                    Some(answer) => self.count.answer(&before, &reader.slot, message, answer),
                     None => self.count.add(format!("{}: {} bytes", line, message.len())),
                 }
             }
             _ => self.count.add(format!("{}: {}", line, why)),
         }
+        self.after_change(&before, &record, &line);
         self.parameters(&before, &record, &line);
         self.after_write(before.slot.kind, &record, &line);
         self.stream.parts.push(record);
         self.stream.lines.push(line);
+    }
+
+    /// Counts a message that is answered right after a count has changed.
+    fn after_change(&mut self, before: &count::Before, record: &Record, line: &str) {
+        if let (Some((kind, what)), true) = (self.changed, line.starts_with("msg 0")) {
+            self.count.add(format!("kind {}: answered right after {} that changed a count", kind, what));
+        }
+        let (was, is) = (&before.slot, &self.maker.reader.slot);
+        // Of the messages 20 and D1 alone change one.
+        let what = match record {
+            Record::Insert(_) => "an insertion",
+            Record::Message(message) if message.get(11) == Some(&0x20) => "a 20",
+            Record::Message(_) => "a D1",
+            _ => "a removal",
+        };
+        let changed = (was.tries, was.protected) != (is.tries, is.protected);
+        self.changed = changed.then_some((was.kind.max(is.kind), what));
     }
 
     /// Counts a 6Ch together with what befell the set before it.

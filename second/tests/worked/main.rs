@@ -1,12 +1,13 @@
 //! The second program's own tests: answers worked out by hand from the paper.
 
+mod counts;
 mod parameters;
 mod protected;
 mod without_code;
 
 use second::case::Case;
 use second::parameters::Parameters;
-use second::reader::{self, Slot};
+use second::reader::{self, Chip, Slot};
 use second::step::{Reader, INSERT, MESSAGE, REMOVE};
 
 /// A reader and short words for what a host does with it.
@@ -546,7 +547,8 @@ fn insertions() {
     assert_eq!(host.0.record(INSERT, &[]).unwrap(), "in 3");
     assert_eq!(host.insert(30, &sle4442(7)), "in 0");
     let parameters = Parameters { protocol: 0, bytes: bytes("11 00 00 0A 00") };
-    assert_eq!(host.0.slot, Slot { kind: 30, active: false, selected: 0, page: 8, open: false, parameters });
+    let (active, open, tries, protected) = (false, false, 3, 0);
+    assert_eq!(host.0.slot, Slot { kind: 30, active, selected: 0, page: 8, open, parameters, tries, protected });
     assert_eq!(host.insert(30, &sle4442(8)), "in 5");
     assert_eq!(host.insert(20, &sle4428(0xff)), "in 5");
     assert_eq!(host.0.record(INSERT, &[]).unwrap(), "in 5");
@@ -577,7 +579,7 @@ fn try_it(slot: &Slot, image: &[u8], message: &[u8], buffer: usize) -> Result<us
 
 #[test]
 fn turned_down_messages_keep_every_byte() {
-    let sound = Slot { kind: 30, active: true, selected: 6, open: true, ..Slot::empty() };
+    let sound = Slot { kind: 30, active: true, selected: 6, open: true, tries: 3, ..Slot::empty() };
     let status = bytes("65 00000000 00 00 000000");
     let odd = Slot { page: 7, ..sound.clone() };
     assert_eq!(try_it(&odd, &[], &status[..9], 270), Err(1));
@@ -587,12 +589,12 @@ fn turned_down_messages_keep_every_byte() {
     assert_eq!(try_it(&sound, &sle4442(7), &status, 271), Ok(10));
     assert_eq!(try_it(&sound, &sle4442(8), &status, 271), Err(3));
     assert_eq!(try_it(&Slot { kind: 32, ..sound.clone() }, &sle4442(7), &status, 271), Err(3));
-    assert_eq!(try_it(&sound, &sle4442(5), &status, 271), Err(4));
-    assert_eq!(try_it(&Slot { open: false, ..sound.clone() }, &sle4442(5), &status, 271), Ok(10));
+    assert_eq!(try_it(&Slot { tries: 2, ..sound.clone() }, &sle4442(5), &status, 271), Err(4));
+    assert_eq!(try_it(&Slot { open: false, tries: 2, ..sound.clone() }, &sle4442(5), &status, 271), Ok(10));
     assert_eq!(try_it(&Slot { selected: 0, ..sound.clone() }, &sle4442(7), &status, 271), Err(4));
     assert_eq!(try_it(&Slot { selected: 5, open: false, ..sound.clone() }, &sle4442(7), &status, 271), Err(4));
     assert_eq!(try_it(&Slot { active: false, ..sound.clone() }, &sle4442(7), &status, 271), Err(4));
-    assert_eq!(try_it(&Slot { kind: 1, selected: 1, ..sound.clone() }, &[0; 128], &status, 271), Err(4));
+    assert_eq!(try_it(&Slot { kind: 1, selected: 1, tries: 0, ..sound.clone() }, &[0; 128], &status, 271), Err(4));
     let empty = Slot::empty();
     assert_eq!(try_it(&empty, &[1, 2, 3], &status, 271), Ok(10));
     assert_eq!(try_it(&Slot { page: 16, ..empty.clone() }, &[], &status, 271), Err(4));
@@ -619,6 +621,8 @@ fn any_bytes_at_all() {
             page: [8, 16, 32, 64, 128, 0, next(256) as u8][next(7)],
             open: next(2) == 0,
             parameters: Parameters::default(),
+            tries: next(10) as u8,
+            protected: next(1026) as u16,
         };
         if next(4) == 0 {
             slot.parameters = Parameters { protocol: next(3) as u8, bytes: vec![0x11; next(9)] };
@@ -628,6 +632,11 @@ fn any_bytes_at_all() {
             image[260] = 7;
             if slot.kind == 31 && next(4) > 0 {
                 image[260..264].fill(0);
+            }
+        }
+        if let (Some(chip), true) = (Chip::of(slot.kind), next(8) > 0) {
+            if image.len() == chip.image {
+                (slot.tries, slot.protected) = (chip.tries(&image), chip.protected_bytes(&image));
             }
         }
         let mut message: Vec<u8> = (0..next(40)).map(|_| next(256) as u8).collect();
@@ -653,18 +662,18 @@ fn any_bytes_at_all() {
 #[test]
 fn trial_lines() {
     let mut case = Case {
-        record: raw(&[30, 1, 6, 8, 0]),
+        record: raw(&[30, 1, 6, 8, 0], 3, 0),
         buffer: 272,
         fill: 0xee,
         message: bytes("6F 08000000 00 01 000000 FF 20 00 00 03 01 02 03"),
         image: sle4442(7),
     };
-    let record = "1e01060800001100000a000000".to_string() + &"00".repeat(19);
+    let record = "1e01060800001100000a00000002".to_string() + &"00".repeat(18);
     let buffer = "800200000000010000009006".to_string() + &"ee".repeat(260);
     assert_eq!(case.line(), format!("0 12 {} {} 0104=06", record, buffer));
     // A rest byte that is not 00h is 4, after 3, 2 and 1.
     case.record[31] = 1;
-    let record = "1e01060800001100000a000000".to_string() + &"00".repeat(18) + "01";
+    let record = "1e01060800001100000a00000003".to_string() + &"00".repeat(17) + "01";
     assert_eq!(case.line(), format!("4 0 {} {}", record, "ee".repeat(272)));
     case.image.pop();
     assert_eq!(case.line(), format!("3 0 {} {}", record, "ee".repeat(272)));
@@ -673,7 +682,7 @@ fn trial_lines() {
     case.buffer = 0;
     assert_eq!(case.line(), format!("1 0 {} -", record));
     // With no card the image is not looked at.
-    case.record = raw(&[0, 0, 0, 8, 0]);
+    case.record = raw(&[0, 0, 0, 8, 0], 0, 0);
     case.buffer = 271;
     case.message = bytes("65 00000000 00 02 000000");
     let buffer = "81000000000002020001".to_string() + &"ee".repeat(261);
@@ -683,10 +692,13 @@ fn trial_lines() {
     assert_eq!(&case.line()[..4], "4 0 ");
 }
 
-/// A raw record that begins so, with the default set.
-fn raw(first: &[u8; 5]) -> [u8; 32] {
+/// A raw record that begins so, with the default set and these counts.
+fn raw(first: &[u8; 5], tries: u8, protected: u16) -> [u8; 32] {
     let mut record = [0; 32];
     record[..5].copy_from_slice(first);
     record[5..11].copy_from_slice(&[0, 0x11, 0x00, 0x00, 0x0a, 0x00]);
+    record[13] = tries;
+    record[14] = protected as u8;
+    record[15] = (protected >> 8) as u8;
     record
 }

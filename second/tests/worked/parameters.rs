@@ -199,7 +199,7 @@ fn each_byte_of_a_set() {
 /// A stored set is sound where 61h would take it; with no card it is the default.
 #[test]
 fn stored_sets() {
-    let card = Slot { kind: 30, active: true, selected: 6, open: true, ..Slot::empty() };
+    let card = Slot { kind: 30, active: true, selected: 6, open: true, tries: 3, ..Slot::empty() };
     let with = |slot: &Slot, parameters: &Parameters, image: &[u8], message: &str| {
         try_it(&Slot { parameters: parameters.clone(), ..slot.clone() }, image, &bytes(message), 271)
     };
@@ -235,7 +235,7 @@ fn the_default_returns_over_any_set() {
         let mut slot = Slot { parameters: odd.clone(), ..Slot::empty() };
         assert_eq!(reader::insert(&mut slot, 1, &[0; 128]), Ok(()));
         assert_eq!(slot, Slot { kind: 1, ..Slot::empty() });
-        let full = Slot { kind: 9, active: true, selected: 3, page: 7, open: true, parameters: odd };
+        let full = Slot { kind: 9, active: true, selected: 3, page: 7, open: true, parameters: odd, ..Slot::empty() };
         let mut slot = full.clone();
         assert_eq!(reader::insert(&mut slot, 1, &[0; 128]), Err(5));
         assert_eq!(slot, full);
@@ -249,31 +249,31 @@ fn the_default_returns_over_any_set() {
 #[test]
 fn trial_lines() {
     let mut case = Case {
-        record: raw(&[30, 0, 0, 16, 0]),
+        record: raw(&[30, 0, 0, 16, 0], 3, 0),
         buffer: 271,
         fill: 0xee,
         message: bytes("61 07000000 00 03 01 0000 95 11 FF 9F 03 FE 00"),
         image: sle4442(7),
     };
     // The seven bytes of T=1 stand in bytes 6 to 12 of the record afterwards.
-    let t1 = "1e00001000019511ff9f03fe00".to_string() + &"00".repeat(19);
+    let t1 = "1e00001000019511ff9f03fe0003".to_string() + &"00".repeat(18);
     let buffer = "8207000000000301000195".to_string() + "11ff9f03fe00" + &"ee".repeat(254);
     assert_eq!(case.line(), format!("0 17 {} {}", t1, buffer));
     // From T=1 to T=0 the two bytes that it lacks become 00h.
     case.record[5..13].copy_from_slice(&bytes("01 95 11 FF 9F 03 FE 00"));
     case.message = bytes("61 05000000 00 03 00 0000 D9 03 00 FF 03");
-    let t0 = "1e0000100000d90300ff030000".to_string() + &"00".repeat(19);
+    let t0 = "1e0000100000d90300ff03000003".to_string() + &"00".repeat(18);
     let buffer = "82050000000003010000d90300ff03".to_string() + &"ee".repeat(256);
     assert_eq!(case.line(), format!("0 15 {} {}", t0, buffer));
     case.message = bytes("6D 00000000 00 03 000000");
     let buffer = "820500000000030100001100000a00".to_string() + &"ee".repeat(256);
-    let standard = "1e00001000001100000a000000".to_string() + &"00".repeat(19);
+    let standard = "1e00001000001100000a00000003".to_string() + &"00".repeat(18);
     assert_eq!(case.line(), format!("0 15 {} {}", standard, buffer));
     // Power off keeps the set, power on does not.
     case.message = bytes("63 00000000 00 03 000000");
     assert_eq!(case.line(), format!("0 10 {} {}", t1, "81000000000003010001".to_string() + &"ee".repeat(261)));
     case.message = bytes("62 00000000 00 03 000000");
-    let on = "1e01001000001100000a000000".to_string() + &"00".repeat(19);
+    let on = "1e01001000001100000a00000003".to_string() + &"00".repeat(18);
     let buffer = "800600000000030000003b04a2131091".to_string() + &"ee".repeat(255);
     assert_eq!(case.line(), format!("0 16 {} {}", on, buffer));
     // A failed message changes no byte of the record.
@@ -284,7 +284,7 @@ fn trial_lines() {
 #[test]
 fn unsound_sets_in_raw_records() {
     let refused = |first: &[u8; 5], set: &str| {
-        let mut record = raw(first);
+        let mut record = raw(first, if first[0] == 30 { 3 } else { 0 }, 0);
         record[5..13].copy_from_slice(&bytes(set));
         let message = bytes("6D 00000000 00 00 000000");
         let case = Case { record, buffer: 271, fill: 0, message, image: sle4442(7) };

@@ -360,17 +360,17 @@ fn i2c_answers_9000_whatever_a_page_did() {
 #[test]
 fn trial_lines() {
     // 10h and 12h are protected. What has changed is told; record and counter have not.
-    for (kind, selected, open, record) in
-        [(20, 5, 1, "14010508"), (21, 5, 0, "15010508"), (30, 6, 1, "1e010608"), (31, 6, 0, "1f010608")]
+    for (kind, selected, open, tries, record) in
+        [(20, 5, 1, 8, "14010508"), (21, 5, 0, 0, "15010508"), (30, 6, 1, 3, "1e010608"), (31, 6, 0, 0, "1f010608")]
     {
         let case = |data: &str| Case {
-            record: raw(&[kind, 1, selected, 8, open]),
+            record: raw(&[kind, 1, selected, 8, open], tries, 2),
             buffer: 272,
             fill: 0xee,
             message: bytes(&format!("6F 0A000000 00 05 000000 FF D0 00 0F 05 {}", data)),
             image: card(kind, &[0x10, 0x12]),
         };
-        let record = format!("{}0{}001100000a000000{}", record, open, "00".repeat(19));
+        let record = format!("{}0{}001100000a0000000{}0200{}", record, open, tries, "00".repeat(16));
         let line = |word: &str| format!("0 12 {} 80020000000005000000{}{}", record, word, "ee".repeat(260));
         let changed = " 000f=a0 0011=a2 0013=a4";
         assert_eq!(case("A0 A1 A2 A3 A4").line(), line("6581") + changed);
@@ -385,15 +385,15 @@ fn trial_lines() {
         assert_eq!(Case { buffer: 270, ..unsound }.line()[..4], *"1 0 ");
     }
     // Closed, a code card stores nothing.
-    for (kind, selected, record) in [(20, 5, "1401050800"), (30, 6, "1e01060800")] {
+    for (kind, selected, tries, record) in [(20, 5, 8, "1401050800"), (30, 6, 3, "1e01060800")] {
         let case = Case {
-            record: raw(&[kind, 1, selected, 8, 0]),
+            record: raw(&[kind, 1, selected, 8, 0], tries, 1),
             buffer: 271,
             fill: 0xee,
             message: bytes("6F 07000000 00 05 000000 FF D0 00 0F 02 A0 A1"),
             image: card(kind, &[0x10]),
         };
-        let record = format!("{}001100000a000000{}", record, "00".repeat(19));
+        let record = format!("{}001100000a0000000{}0100{}", record, tries, "00".repeat(16));
         assert_eq!(case.line(), format!("0 12 {} 800200000000050000006982{}", record, "ee".repeat(259)));
     }
 }

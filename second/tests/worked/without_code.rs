@@ -138,9 +138,9 @@ fn turned_down() {
     }
     // 3FDh may be protected on kind 21 and not on kind 20.
     let slot = Slot { kind: 21, active: true, selected: 5, ..Slot::empty() };
-    assert_eq!(try_it(&slot, &sle4418_with(0xdf), &status, 271), Ok(10));
-    assert_eq!(try_it(&slot, &sle4418_with(0x00), &status, 271), Ok(10));
-    assert_eq!(try_it(&Slot { kind: 20, ..slot }, &sle4418_with(0xdf), &status, 271), Err(3));
+    assert_eq!(try_it(&Slot { protected: 1, ..slot.clone() }, &sle4418_with(0xdf), &status, 271), Ok(10));
+    assert_eq!(try_it(&Slot { protected: 8, ..slot.clone() }, &sle4418_with(0x00), &status, 271), Ok(10));
+    assert_eq!(try_it(&Slot { kind: 20, protected: 1, ..slot }, &sle4418_with(0xdf), &status, 271), Err(3));
 }
 
 /// B1, 20 and D2 in their right form, with a wrong length, and at another place.
@@ -389,7 +389,8 @@ fn a_4432_is_written_and_protected() {
     assert_eq!(host.send("FF D0 00 1F 02 00 01"), "6581");
     assert_eq!(host.send("FF B0 00 1E 04"), "ffff01ff9000");
     assert_eq!(host.send("FF D0 00 20 02 00 00"), "9000");
-    assert_eq!(host.0.slot, Slot { kind: 31, active: true, selected: 6, ..Slot::empty() });
+    // Bytes 0, 3 and 1Fh are protected.
+    assert_eq!(host.0.slot, Slot { kind: 31, active: true, selected: 6, protected: 3, ..Slot::empty() });
     assert_eq!(host.0.image[256..], bytes("F6 FF FF 7F 00 00 00 00"));
 }
 
@@ -425,14 +426,16 @@ fn trial_lines() {
     let done = "800200000000010000009000".to_string() + &"ee".repeat(259);
     let word = |word: &str| format!("80020000000001000000{}{}", word, "ee".repeat(259));
     let sle4418 = |apdu: &str| Case {
-        record: raw(&[21, 1, 5, 8, 0]),
+        record: raw(&[21, 1, 5, 8, 0], 0, 0),
         buffer: 271,
         fill: 0xee,
         message: message(apdu),
         image: sle4418(),
     };
     let line = format!("0 12 {} {}", record("150105"), done);
-    assert_eq!(sle4418("FF D0 03 FD 03 01 02 03").line(), line.clone() + " 03fd=01 03fe=02 03ff=03");
+    assert_eq!(sle4418("FF D0 03 FD 03 01 02 03").line(), line + " 03fd=01 03fe=02 03ff=03");
+    // D1 of three bytes protects two.
+    let line = format!("0 12 {} {}", raw_hex(&raw(&[21, 1, 5, 8, 0], 0, 2)), done);
     assert_eq!(sle4418("FF D1 03 FD 03 C1 00 C3").line(), line + " 047f=5f");
     let line = format!("0 12 {} {}", record("150105"), word("6d00"));
     assert_eq!(sle4418("FF 20 00 00 02 C2 C3").line(), line);
@@ -441,7 +444,7 @@ fn trial_lines() {
     open.record[4] = 1;
     assert_eq!(open.line(), format!("4 0 {} {}", raw_hex(&open.record), "ee".repeat(271)));
 
-    let mut case = Case { record: raw(&[31, 1, 6, 8, 0]), image: sle4432(), ..sle4418("FF B1 00 00 04") };
+    let mut case = Case { record: raw(&[31, 1, 6, 8, 0], 0, 0), image: sle4432(), ..sle4418("FF B1 00 00 04") };
     assert_eq!(case.line(), format!("0 12 {} {}", record("1f0106"), word("6d00")));
     case.message = message("FF D0 00 FF 01 55");
     assert_eq!(case.line(), format!("0 12 {} {} 00ff=55", record("1f0106"), done));

@@ -1,4 +1,4 @@
--- `present` meets its contract: the code is presented, and 90 and the counter afterwards are said; a right code opens, any other closes.
+-- `present` meets its contract: the code is presented, 90 and the counter afterwards are said and its tries kept; a right code opens, any other closes.
 use borrow.Author.Needs.{needs}
 use mathlib.Core.Path.{_≡_, refl, sym, ap, ap₂, _∙_}
 use mathlib.Core.List.{[], _∷_}
@@ -11,6 +11,9 @@ use Rattle.words.proofs.Lists.{over-pair, same-four}
 use Rattle.chips.specs.declared.Facts.{Facts}
 use Rattle.chips.specs.Kinds.{facts}
 use Rattle.chips.proofs.KindLaws.{laid, coded}
+use Rattle.slot.specs.Slots.{opened, closed, triesAs}
+use Rattle.counts.specs.Counts.{triesIn}
+use Rattle.codes.specs.Counters.{tries}
 use Rattle.codes.specs.Codes.{presenting, accepts}
 use Rattle.codes.proofs.CodeLaws.{length-presenting}
 use Rattle.orders.specs.Orders.{afterCode, rightCode, saidBy, imageBy, slotBy, performed}
@@ -69,9 +72,9 @@ counter-after p =
     let at-facts = p .before .before .before .before in
     ap₂ byte (code-after p) (ap (λ (f : Facts). f .counter) (at-facts .facts .ensures))
 
-slice-read-put-two : tie.Need-slice-read-put-two
-slice-read-put-two c =
-    let p = c .before .before .before .before in
+slice-read-left : tie.Need-slice-read-left
+slice-read-left c =
+    let p = c .before .before .before in
     let start = p .before .before .before .before .before .before .before .before in
     let a = start .args in
     let f = facts (a .chip) in
@@ -91,6 +94,21 @@ said q =
     let a = p .before .before .before .before .before .before .before .before .args in
     q .put-two .ensures .1 ∙ over-pair (a .out .now) 0x90 _ (omega arith) ∙ ap (λ (x : ℕ). over (0x90 ∷ x ∷ []) (a .out .now)) (counter-after p)
 
+tries-left-requires : tie.Need-tries-left-requires
+tries-left-requires c κs = search needs
+
+with-tries-requires : tie.Need-with-tries-requires
+with-tries-requires c κs = search needs
+
+-- and its tries kept
+counted : (w : tie.After-with-tries) → let p = w .before .before .before .before .before .before .before .before .before in
+    let a = p .before .before .before .before .before .before .before .before .args in
+    w .with-tries .result ≡ triesAs (triesIn (facts (a .chip)) (afterCode (facts (a .chip)) (a .image .now) (a .guess .now))) (a .slot)
+counted w =
+    let p = w .before .before .before .before .before .before .before .before .before in
+    let a = p .before .before .before .before .before .before .before .before .args in
+    w .with-tries .ensures ∙ ap (λ (n : ℕ). triesAs n (a .slot)) (w .before .tries-left .ensures ∙ ap tries (counter-after p))
+
 open-requires : tie.Need-open-requires
 open-requires c κs = search needs
 
@@ -104,9 +122,14 @@ same-length-2 c = search needs
 returns : tie.Need-returns
 unfolding performed saidBy imageBy slotBy
 returns c =
-    let q = c .before .before .before .before in
+    let q = c .before .before .before .before .before .before in
     let p = q .before .before .before .before .before in
-    record { len = q .put-two .ensures .0; slot = c .«open» .ensures ∙ taken _ (right p ∙ c .before .if1 .taken); image = code-after p; out = said q }
+    record {
+      len = q .put-two .ensures .0;
+      slot = c .«open» .ensures ∙ ap opened (counted (c .before .before)) ∙ taken _ (right p ∙ c .before .if1 .taken);
+      image = code-after p;
+      out = said q;
+    }
 
 close-requires : tie.Need-close-requires
 close-requires c κs = search needs
@@ -120,9 +143,14 @@ same-length-4 c = search needs
 returns-2 : tie.Need-returns-2
 unfolding performed saidBy imageBy slotBy
 returns-2 c =
-    let q = c .before .before .before .before in
+    let q = c .before .before .before .before .before .before in
     let p = q .before .before .before .before .before in
-    record { len = q .put-two .ensures .0; slot = c .close .ensures ∙ passed _ (right p ∙ c .before .if1 .left) refl; image = code-after p; out = said q }
+    record {
+      len = q .put-two .ensures .0;
+      slot = c .close .ensures ∙ ap closed (counted (c .before .before)) ∙ passed _ (right p ∙ c .before .if1 .left) refl;
+      image = code-after p;
+      out = said q;
+    }
 
 pub present-spec : {M : Type 1} → statement M
 present-spec =
@@ -132,8 +160,10 @@ present-spec =
     facts-requires-2
     facts-requires-3
     present-requires
-    slice-read-put-two
+    slice-read-left
     put-two-requires
+    tries-left-requires
+    with-tries-requires
     open-requires
     same-length
     same-length-2

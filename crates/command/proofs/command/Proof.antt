@@ -59,7 +59,7 @@ perform-requires c κs =
     let short : Short (at-decide .decide .result) =
     subst⁻¹ Short (at-decide .decide .ensures)
     (order-short f (a .slot) d (omega (arith, at-shared-slice-known .shared-slice-known .given 4))) in
-    (omega arith, start .pre .1, start .pre .2, subst⁻¹ (λ (b : List ℕ). Fit f b (at-decide .decide .result)) (tail-is 5 d) fits, short)
+    (omega arith, start .pre .1, start .pre .2, subst⁻¹ (λ (b : List ℕ). Fit f b (at-decide .decide .result)) (tail-is 5 d) fits, short, start .pre .3)
 
 same-length-2 : tie.Need-same-length-2
 same-length-2 c = search needs

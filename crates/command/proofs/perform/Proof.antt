@@ -101,6 +101,7 @@ protect-requires c κs =
       omega arith,
       start .pre .1,
       fit-by (facts (start .args .chip)) (start .args .«data» .now) (at-order7 .order7 .given .1) (start .pre .3) .0,
+      start .pre .5,
     )
 
 enum-told-2 : tie.Need-enum-told-2

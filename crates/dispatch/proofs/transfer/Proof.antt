@@ -13,6 +13,8 @@ use Rattle.words.proofs.Lists.{lent-tail, tail-is}
 use Rattle.chips.specs.Kinds.{facts}
 use Rattle.card.proofs.ImageLaws.{card-parts}
 use Rattle.slot.specs.declared.Holds.{Holds}
+use Rattle.counts.specs.Counts.{protectedOf}
+use Rattle.counts.proofs.CardLaws.{protected-card}
 use Rattle.sound.specs.Sound.{imageIsCard}
 use Rattle.orders.specs.Orders.{commanded, Does}
 use Rattle.faults.specs.Faults.{Transfer, apdu, requestOf}
@@ -93,10 +95,12 @@ command-requires c κs =
     let start = at-holds .before .before .before .before .before .before .before .before in
     let a = start .args in
     let e : imageIsCard (Holds.Card (at-holds .holds .given .0 .0)) (a .image .now) ≡ true =
-    subst (λ (h : Holds). imageIsCard h (a .image .now) ≡ true) (at-holds .holds .given .1) (start .pre .2) in (
+    subst (λ (h : Holds). imageIsCard h (a .image .now) ≡ true) (at-holds .holds .given .1) (start .pre .2) in
+    let long = card-parts _ (a .image .now) e .long in (
       rw (tail-is 10 (a .answer .now)) (omega (arith, length-drop 10 (a .answer .now), start .pre .1)),
-      card-parts _ (a .image .now) e .long,
+      long,
       start .pre .3,
+      start .pre .4 ∙ ap (λ (h : Holds). protectedOf h (a .image .now)) (at-holds .holds .given .1) ∙ protected-card (at-holds .holds .given .0 .0) (a .image .now) long,
     )
 
 seal-requires-3 : tie.Need-seal-requires-3

@@ -56,7 +56,8 @@ handle-requires : tie.Need-handle-requires
 handle-requires c κs =
     let on = c .before .before in
     let a = on .before .before .before .before .before .before .before .before .before .args in
-    (omega arith, omega arith, fits (on .before .before .before), page-some (a .slot .page) (sound-parts (a .slot) (a .image .now) (is-sound on) .sized))
+    let s = sound-parts (a .slot) (a .image .now) (is-sound on) in
+    (omega arith, omega arith, fits (on .before .before .before), page-some (a .slot .page) (s .sized), s .counts .protected)
 
 same-length-3 : tie.Need-same-length-3
 same-length-3 c = search needs

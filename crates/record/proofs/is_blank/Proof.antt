@@ -1,10 +1,9 @@
 -- `is_blank` meets its contract: each number is 0 where its bytes are 00h, and they cover the rest.
 use borrow.Author.Needs.{needs}
-use mathlib.Core.Path.{_≡_, sym, ap, _∙_}
+use mathlib.Core.Path.{sym, ap, _∙_}
 use native.Mathlib.Omega.{arith}
 use Prim.Native.Nat.{ℕ}
 use Rattle.words.specs.Choice.{_is_}
-use Rattle.words.specs.Bytes.{eightAt}
 use Rattle.record.proofs.RawLaws.{eight-zero, eight-more, blank-last}
 use Rattle.record.proofs.is_blank.Statement.{statement}
 use Rattle.record.proofs.is_blank.Tie as tie
@@ -15,31 +14,18 @@ eight-at-requires c κs = search needs
 returns : tie.Need-returns
 returns c =
     let r = c .before .before .before .args .raw .now in
-    eight-more r 13 (omega arith) (λ e. c .if1 .taken (c .before .eight-at .ensures ∙ e))
+    eight-more r 16 (omega arith) (λ e. c .if1 .taken (c .before .eight-at .ensures ∙ e))
 
 eight-at-requires-2 : tie.Need-eight-at-requires-2
 eight-at-requires-2 c κs = search needs
 
 returns-2 : tie.Need-returns-2
 returns-2 c =
-    let r = c .before .before .before .before .before .args .raw .now in
-    eight-more r 21 (omega arith) (λ e. c .if2 .taken (c .before .eight-at2 .ensures ∙ e))
-    ∙ eight-zero r 13 (omega arith) (sym (c .before .before .before .eight-at .ensures) ∙ c .before .before .if1 .left)
-
-four-at-requires : tie.Need-four-at-requires
-four-at-requires c κs = search needs
-
-returns-3 : tie.Need-returns-3
-returns-3 c =
-    let start = c .before .before .before .before .before .before in
+    let start = c .before .before .before .before in
     let r = start .args .raw .now in
-    let z : eightAt r 21 ≡ 0 = sym (c .before .before .eight-at2 .ensures) ∙ c .before .if2 .left in
-    ap (λ (n : ℕ). n is 0) (c .four-at .ensures)
-    ∙ blank-last r (start .pre) z
-    ∙ eight-zero r 21 (omega arith) z
-    ∙ eight-zero r 13 (omega arith) (sym (c .before .before .before .before .eight-at .ensures) ∙ c .before .before .before .if1 .left)
+    ap (λ (n : ℕ). n is 0) (c .eight-at2 .ensures)
+    ∙ blank-last r (start .pre)
+    ∙ eight-zero r 16 (omega arith) (sym (c .before .before .eight-at .ensures) ∙ c .before .if1 .left)
 
 pub is-blank-spec : {M : Type 1} → statement M
-is-blank-spec =
-    tie.close
-    (tie.spec eight-at-requires returns eight-at-requires-2 returns-2 four-at-requires returns-3)
+is-blank-spec = tie.close (tie.spec eight-at-requires returns eight-at-requires-2 returns-2)

@@ -2,6 +2,8 @@
 use borrow.Author.Needs.{needs}
 use mathlib.Core.Path.{sym, ap, _∙_}
 use mathlib.Core.Bool.{not}
+use native.Mathlib.Omega.{arith}
+use Prim.Native.Nat.{ℕ, _+_, _*_}
 use borrow.Author.Tests.{eq-eqb, ne-eqb, lt-ltb, le-ltb}
 use Rattle.words.specs.Choice.{_is_}
 use Rattle.words.specs.Bytes.{byte}
@@ -54,20 +56,43 @@ shared-slice-read-of-2 c = search needs
 eight-at-requires : tie.Need-eight-at-requires
 eight-at-requires c κs = search needs
 
+shared-slice-read-of-3 : tie.Need-shared-slice-read-of-3
+shared-slice-read-of-3 c = search needs
+
+shared-slice-read-of-4 : tie.Need-shared-slice-read-of-4
+shared-slice-read-of-4 c = search needs
+
+cast-of : tie.Need-cast-of
+cast-of c = omega (arith, c .shared-slice-known7 .given 14, c .shared-slice-known7 .given 15)
+
+shared-slice-read-of-5 : tie.Need-shared-slice-read-of-5
+shared-slice-read-of-5 c = search needs
+
+cast-of-2 : tie.Need-cast-of-2
+cast-of-2 c = omega (arith, c .shared-slice-known8 .given 14, c .shared-slice-known8 .given 15)
+
+mul-of : tie.Need-mul-of
+mul-of c = omega (arith, c .shared-slice-known8 .given 14, c .shared-slice-known8 .given 15)
+
+add-of : tie.Need-add-of
+add-of c = omega (arith, c .shared-slice-known8 .given 14, c .shared-slice-known8 .given 15)
+
 of-requires : tie.Need-of-requires
 of-requires c κs = search needs
 
 returns-5 : tie.Need-returns-5
 unfolding slotWith
 returns-5 c =
-    let on = c .before .before .before .before in
+    let at-eight = c .before .before .before .before in
+    let on = at-eight .before .before .before in
     let a = on .before .before .before .before .before .before .before .before .args in
     let r = a .raw .now in
     passed _ (ap not (eq-eqb _ 32 (on .before .before .before .before .before .before .if1 .left)))
     (passed _ (le-ltb 1 _ (on .before .before .before .before .if2 .left))
     (passed _ (le-ltb 1 _ (on .before .before .if3 .left))
     (passed _ (ap not (sym (on .before .is-blank .ensures)) ∙ on .if4 .left)
-    (ap Reading.Found (c .of .ensures ∙ ap (slotted (a .holds) (byte r 1 is 1) (byte r 2) (byte r 3) (byte r 4 is 1)) (c .before .eight-at .ensures))))))
+    (ap Reading.Found (c .of .ensures
+    ∙ ap (λ (set : ℕ). slotted (a .holds) (byte r 1 is 1) (byte r 2) (byte r 3) (byte r 4 is 1) set (byte r 13) (byte r 14 + 256 * byte r 15)) (at-eight .eight-at .ensures))))))
 
 pub read-with-spec : {M : Type 1} → statement M
 read-with-spec =
@@ -83,5 +108,12 @@ read-with-spec =
     shared-slice-read-of
     shared-slice-read-of-2
     eight-at-requires
+    shared-slice-read-of-3
+    shared-slice-read-of-4
+    cast-of
+    shared-slice-read-of-5
+    cast-of-2
+    mul-of
+    add-of
     of-requires
     returns-5)

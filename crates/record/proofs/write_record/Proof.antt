@@ -41,7 +41,7 @@ same-length c =
     let a = c .before .before .before .before .before .before .before .before .before .before .before .args in
     let k = c .before .before .before .before .before .before .before .before .kind-of .result in
     ap length (c .before .before .clear-rest .ensures)
-    ∙ length-sets (c .before .before .before .before .before .before .write-state .last .1 .0) 13 (replicate 19 0)
+    ∙ length-sets (c .before .before .before .before .before .before .write-state .last .1 .0) 16 (replicate 16 0)
     ∙ ap length (c .before .before .before .before .before .before .write-state .ensures)
     ∙ length-sets (set (a .raw .now) 0 k) 1 (stateOf (a .slot))
     ∙ length-set (a .raw .now) 0 k
@@ -55,7 +55,7 @@ returns-2 c =
     let a = start .args in
     met _ (eq-eqb _ 32 (at-if1 .if1 .left))
     (c .before .before .clear-rest .ensures
-    ∙ ap (λ (t : List ℕ). sets t 13 (replicate 19 0)) (at-write-state .write-state .ensures)
+    ∙ ap (λ (t : List ℕ). sets t 16 (replicate 16 0)) (at-write-state .write-state .ensures)
     ∙ record-written (a .raw .now) (a .slot) (at-kind-of .kind-of .result) (at-if1 .if1 .left) (at-kind-of .kind-of .ensures))
 
 pub write-record-spec : {M : Type 1} → statement M

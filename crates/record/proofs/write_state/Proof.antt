@@ -1,6 +1,6 @@
--- `write_state` meets its contract: four stores, and the eight bytes of the parameters, as it says.
+-- `write_state` meets its contract: four stores, the eight bytes of the parameters, and three of the counts, as it says.
 use borrow.Author.Needs.{needs}
-use mathlib.Core.Path.{ap, _∙_}
+use mathlib.Core.Path.{_≡_, ap, _∙_}
 use native.Mathlib.Omega.{arith}
 use Prim.Native.Nat.{ℕ}
 use mathlib.Core.List.{List, _∷_}
@@ -32,21 +32,44 @@ slice-write-raw-4 c = simp length-set (omega arith)
 put-eight-requires : tie.Need-put-eight-requires
 put-eight-requires c κs = simp length-set (omega arith)
 
+-- the stores leave the length
+state-long : (p : tie.After-put-eight) → length (p .put-eight .last .0) ≡ length (p .before .before .before .before .before .args .raw .now)
+state-long p =
+    let a = p .before .before .before .before .before .args in
+    let on = p .before .before .before .flag-of .result in
+    let op = p .before .before .flag-of2 .result in
+    ap length (p .put-eight .ensures) ∙ length-sets (a .raw .now) 1 (on ∷ a .slot .selected ∷ a .slot .page ∷ op ∷ lowFirst 7 (a .slot .set))
+
+slice-write-raw-5 : tie.Need-slice-write-raw-5
+slice-write-raw-5 c = omega (arith, state-long (c .before .before))
+
+cast-raw : tie.Need-cast-raw
+cast-raw c = search needs
+
+slice-write-raw-6 : tie.Need-slice-write-raw-6
+slice-write-raw-6 c = simp length-set (omega (arith, state-long (c .before .before .before)))
+
+cast-raw-2 : tie.Need-cast-raw-2
+cast-raw-2 c = search needs
+
+slice-write-raw-7 : tie.Need-slice-write-raw-7
+slice-write-raw-7 c = simp length-set (omega (arith, state-long (c .before .before .before .before)))
+
 same-length : tie.Need-same-length
-same-length c =
-    let a = c .before .before .before .before .before .before .before .args in
-    let on = c .before .before .before .before .before .flag-of .result in
-    let op = c .before .before .before .before .flag-of2 .result in
-    ap length (c .before .before .put-eight .ensures) ∙ length-sets (a .raw .now) 1 (on ∷ a .slot .selected ∷ a .slot .page ∷ op ∷ lowFirst 7 (a .slot .set))
+same-length c = simp length-set (state-long (c .before .before .before .before))
 
 returns : tie.Need-returns
+unfolding lowFirst
 returns c =
-    let a = c .before .before .before .before .before .before .before .args in
+    let p = c .before .before .before .before in
+    let a = p .before .before .before .before .before .args in
     let s = a .slot in
     let f : ℕ → ℕ → List ℕ = λ on op. sets (a .raw .now) 1 (on ∷ s .selected ∷ s .page ∷ op ∷ lowFirst 7 (s .set)) in
-    c .before .before .put-eight .ensures
-    ∙ ap (λ (on : ℕ). f on (c .before .before .before .before .flag-of2 .result)) (c .before .before .before .before .before .flag-of .ensures)
-    ∙ ap (f (flagOf (s .active))) (c .before .before .before .before .flag-of2 .ensures)
+    let g : List ℕ → List ℕ = λ l. sets l 13 (s .tries ∷ lowFirst 1 (s .protected)) in
+    ap g
+    (p .put-eight .ensures
+    ∙ ap (λ (on : ℕ). f on (p .before .before .flag-of2 .result)) (p .before .before .before .flag-of .ensures)
+    ∙ ap (f (flagOf (s .active))) (p .before .before .flag-of2 .ensures))
 
 pub write-state-spec : {M : Type 1} → statement M
 write-state-spec =
@@ -59,5 +82,10 @@ write-state-spec =
     flag-of-requires-2
     slice-write-raw-4
     put-eight-requires
+    slice-write-raw-5
+    cast-raw
+    slice-write-raw-6
+    cast-raw-2
+    slice-write-raw-7
     same-length
     returns)

@@ -1,6 +1,7 @@
 -- `empty` meets its contract: a record of the rule's fields.
 use borrow.Author.Needs.{needs}
 use mathlib.Core.Path.{ap, _∙_}
+use Prim.Native.Nat.{ℕ}
 use mathlib.Core.Bool.{false}
 use Rattle.slot.specs.declared.Holds.{Holds}
 use Rattle.slot.specs.Slots.{slotted}
@@ -14,7 +15,7 @@ of-requires : tie.Need-of-requires
 of-requires c κs = search needs
 
 returns : tie.Need-returns
-returns c = c .of .ensures ∙ ap (slotted Holds.Empty false 0 8 false) (c .before .default-set .ensures)
+returns c = c .of .ensures ∙ ap (λ (set : ℕ). slotted Holds.Empty false 0 8 false set 0 0) (c .before .default-set .ensures)
 
 pub empty-spec : {M : Type 1} → statement M
 empty-spec = tie.close (tie.spec default-set-requires of-requires returns)

@@ -1,10 +1,10 @@
--- `is_sound` meets its contract: the six tests are the rule's, in its order.
+-- `is_sound` meets its contract: the seven tests are the rule's, in its order.
 use borrow.Author.Needs.{needs}
 use mathlib.Core.Path.{_≡_, sym, _∙_}
 use mathlib.Core.Bool.{true}
 use borrow.Author.Tests.{not-true, not-false}
 use Rattle.words.proofs.Choices.{and-fails, and-holds}
-use Rattle.sound.specs.Sound.{pageSize, emptySound, idleSound, typeSound, openSound, sound}
+use Rattle.sound.specs.Sound.{pageSize, emptySound, idleSound, typeSound, openSound, setSound, sound}
 use Rattle.sound.proofs.is_sound.Statement.{statement}
 use Rattle.sound.proofs.is_sound.Tie as tie
 
@@ -23,6 +23,10 @@ past4 c = sym (c .before .type-sound .ensures) ∙ not-false _ (c .if4 .left)
 
 past5 : (c : tie.Else5) → let a = c .before .before .before .before .before .before .before .before .before .before .before .args in openSound (a .slot) (a .image .now) ≡ true
 past5 c = sym (c .before .open-sound .ensures) ∙ not-false _ (c .if5 .left)
+
+past6 : (c : tie.Else6) →
+    let a = c .before .before .before .before .before .before .before .before .before .before .before .before .before .args in setSound (a .slot .holds) (a .slot .set) ≡ true
+past6 c = sym (c .before .set-sound .ensures) ∙ not-false _ (c .if6 .left)
 
 page-size-requires : tie.Need-page-size-requires
 page-size-requires c κs = search needs
@@ -80,13 +84,28 @@ set-sound-requires c κs = search needs
 returns-6 : tie.Need-returns-6
 unfolding sound
 returns-6 c =
-    let at-if5 = c .before in
+    let at-if5 = c .before .before in
     let at-if4 = at-if5 .before .before in
     let at-if3 = at-if4 .before .before in
     let at-if2 = at-if3 .before .before in
     let at-if1 = at-if2 .before .before in
     and-holds (past1 at-if1) (and-holds (past2 at-if2) (and-holds (past3 at-if3) (and-holds (past4 at-if4)
-    (and-holds (past5 at-if5) (c .set-sound .ensures)))))
+    (and-holds (past5 at-if5) (and-fails _ (sym (c .before .set-sound .ensures) ∙ not-true _ (c .if6 .taken)))))))
+
+counts-sound-requires : tie.Need-counts-sound-requires
+counts-sound-requires c κs = search needs
+
+returns-7 : tie.Need-returns-7
+unfolding sound
+returns-7 c =
+    let at-if6 = c .before in
+    let at-if5 = at-if6 .before .before in
+    let at-if4 = at-if5 .before .before in
+    let at-if3 = at-if4 .before .before in
+    let at-if2 = at-if3 .before .before in
+    let at-if1 = at-if2 .before .before in
+    and-holds (past1 at-if1) (and-holds (past2 at-if2) (and-holds (past3 at-if3) (and-holds (past4 at-if4)
+    (and-holds (past5 at-if5) (and-holds (past6 at-if6) (c .counts-sound .ensures))))))
 
 pub is-sound-spec : {M : Type 1} → statement M
 is-sound-spec =
@@ -103,4 +122,6 @@ is-sound-spec =
     open-sound-requires
     returns-5
     set-sound-requires
-    returns-6)
+    returns-6
+    counts-sound-requires
+    returns-7)

@@ -1,6 +1,7 @@
 -- `insert` meets its contract: a record of the rule's fields.
 use borrow.Author.Needs.{needs}
 use mathlib.Core.Path.{ap, _∙_}
+use Prim.Native.Nat.{ℕ}
 use mathlib.Core.Bool.{false}
 use Rattle.slot.specs.declared.Holds.{Holds}
 use Rattle.slot.specs.Slots.{slotted}
@@ -14,7 +15,9 @@ of-requires : tie.Need-of-requires
 of-requires c κs = search needs
 
 returns : tie.Need-returns
-returns c = c .of .ensures ∙ ap (slotted (Holds.Card (c .before .before .args .chip)) false 0 8 false) (c .before .default-set .ensures)
+returns c =
+    let a = c .before .before .args in
+    c .of .ensures ∙ ap (λ (set : ℕ). slotted (Holds.Card (a .chip)) false 0 8 false set (a .tries) (a .protected)) (c .before .default-set .ensures)
 
 pub insert-spec : {M : Type 1} → statement M
 insert-spec = tie.close (tie.spec default-set-requires of-requires returns)

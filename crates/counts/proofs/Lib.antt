@@ -1,0 +1,2 @@
+pub mod ZeroLaws
+pub mod CardLaws
