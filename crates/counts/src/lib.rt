@@ -43,7 +43,7 @@ fn zeros_in(bytes: &[u8]) -> usize
 }
 
 // The number of protected bytes of the card that is in: the zero bits of its protection bytes. It is 0 with none, and in an image that has not the
-// card's length.
+// card's length. An I2C card has no protection bytes and is done at once.
 pub fn protected_of(holds: Holds, image: &[u8]) -> u16
     ensures { λ r. ⌜ r ≡ protectedOf holds (now (image .entry)) ⌝ }
 {

@@ -7,10 +7,12 @@ use mathlib.Core.List.{List, [], _∷_, _++_}
 use native.Mathlib.Omega.{arith}
 use lib.ListN.{length, take, drop, length-drop}
 use lib.Seq.{take-suc, getD-drop}
+use lib.IntN.{pos}
 use borrow.Author.Tests.{eqb-true, eqb-false, not-true, not-false}
 use mathlib.Core.Logic.{inl}
 use Rattle.words.specs.Choice.{_⇒_⁏_, _and_, _is_}
 use Rattle.words.specs.Bytes.{byte, lowFirst}
+use Rattle.words.specs.Bounds.{leastRoom}
 use Rattle.words.proofs.Choices.{either, rest, and-fails, and-holds}
 use Rattle.chips.specs.declared.Chip.{Chip}
 use Rattle.chips.specs.declared.Known.the-variants.{Is}
@@ -44,15 +46,19 @@ use Rattle.reader.specs.Heard.{requested, heard, transfers}
 use Rattle.reader.proofs.Came.{Came, down, failed, obeyed, came, heard-proper}
 use Rattle.reader.proofs.Insertions.{insertion-inserts}
 use Rattle.reader.proofs.Kept.{proper-card, exchange-holds, answered-proper, insertion-proper, removed-proper}
+use Rattle.calls.specs.Calls.{rawInsertion, Returns}
+use Rattle.records.specs.declared.Mark.{Mark}
 use Rattle.sitting.specs.declared.Held.{Held}
+use Rattle.sitting.specs.declared.Done.{Done}
+use Rattle.sitting.specs.Sittings.{outcomeOf, Leaves}
 use Rattle.promise.specs.Tries.{runFrom}
 use Rattle.promise.specs.Protected.{protectedIn}
 use Rattle.promise.specs.Sequences.{Called, Sat}
 use Rattle.promise.specs.Counted.{places, newly, addedBy, added, addedIn, triesShown, protectedShown, Shown}
 use Rattle.promise.proofs.RunLaws.{run-holds, run-proper}
-use Rattle.promise.proofs.Inserted.{put-in-slot}
+use Rattle.promise.proofs.Inserted.{put-in-slot, put-image}
 use Rattle.promise.proofs.Tries.{tries-left}
-use Rattle.promise.proofs.Sequences.{called-run, sat-run}
+use Rattle.promise.proofs.Sequences.{called-run, sat-run, call-inserts, record-accepted, held-card, held-slot}
 
 -- ---- the number is how many bytes are protected
 -- the zero bits of n + 1 bits are those of n and the last one
@@ -267,10 +273,11 @@ module _ (chip : Chip) (s : Slot) (image : List ℕ) (holds : s .holds ≡ Card 
     }
 
   -- by calls of `card_reader_message`: bytes 13 to 15 of the record
-  pub calls-shown : {ms : List Sent} {r′ image′ : List ℕ} → Called (rawOf s) image ms r′ image′ → Shown (facts chip) s image ms (triesShown r′) (protectedShown r′)
+  pub calls-shown : {r start : List ℕ} → r ≡ rawOf s → start ≡ image → {ms : List Sent} {r′ image′ : List ℕ} → Called r start ms r′ image′
+      → Shown (facts chip) s image ms (triesShown r′) (protectedShown r′)
   unfolding rawOf lowFirst
-  calls-shown {ms} {r′} calls =
-      let e : r′ ≡ rawOf (run s image ms .slot) = called-run calls s image refl refl .0 in
+  calls-shown written same {ms} {r′} calls =
+      let e : r′ ≡ rawOf (run s image ms .slot) = called-run calls s image written same .0 in
       let n : ℕ = run s image ms .slot .protected in
       let two : n % 256 + 256 * (n / 256) ≡ n = omega arith in
       subst⁻¹ (λ (r : List ℕ). Shown (facts chip) s image ms (triesShown r) (protectedShown r)) e
@@ -289,3 +296,24 @@ pub shown-from : (chip : Chip) (s : Slot) (kind : ℕ) (image : List ℕ) → ch
 shown-from chip s kind image known e ms =
     let put = insertion s kind image in
     run-shown chip (put .slot) (put .image) (ap (λ (t : Slot). t .holds) (put-in-slot chip s kind image known e)) (insertion-proper s kind image e) ms
+
+-- so by calls: the card was put in by `card_reader_insert`, which returned 0
+pub calls-shown-from : (chip : Chip) (kind : ℕ) (r image : List ℕ) → chipOf kind ≡ Is chip → {left : List ℕ} → Returns (rawInsertion r kind image) (pos 0) left image [] []
+    → {ms : List Sent} {r′ image′ : List ℕ} → Called left image ms r′ image′
+    → let put = insertion removed kind image in Shown (facts chip) (put .slot) (put .image) ms (triesShown r′) (protectedShown r′)
+calls-shown-from chip kind r image known returns calls =
+    let put = insertion removed kind image in
+    let p = call-inserts kind r image returns in
+    calls-shown chip (put .slot) (put .image) (ap (λ (t : Slot). t .holds) (put-in-slot chip removed kind image known (p .0))) (insertion-proper removed kind image (p .0))
+    (p .1) (sym (put-image chip removed kind image)) calls
+
+-- and by records: it was put in by `sitting::perform` with an insert record, which printed 0
+pub sittings-shown-from : (chip : Chip) (h : Held) (had b : List ℕ) → chipOf (byte b 0) ≡ Is chip → {d : Done} {left was holds : List ℕ}
+    → Leaves (outcomeOf Mark.Insert b (h .slot) (take (h .size) had) leastRoom) d had left was holds → d .number ≡ 0 → {ms : List Sent} {held : Held} {later : List ℕ}
+    → Sat (d .held) left ms held later
+    → let put = insertion (h .slot) (byte b 0) (drop 1 b) in Shown (facts chip) (put .slot) (put .image) ms (held .slot .tries) (held .slot .protected)
+sittings-shown-from chip h had b known leaves done sits =
+    let put = insertion (h .slot) (byte b 0) (drop 1 b) in
+    let e = record-accepted h had b leaves done in
+    sittings-shown chip (put .slot) (put .image) (ap (λ (t : Slot). t .holds) (put-in-slot chip (h .slot) (byte b 0) (drop 1 b) known e))
+    (insertion-proper (h .slot) (byte b 0) (drop 1 b) e) (held-slot h had b leaves done) (held-card h had b leaves done) sits

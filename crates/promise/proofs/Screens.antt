@@ -14,7 +14,8 @@ use Rattle.promise.specs.Tries.{runFrom}
 use Rattle.promise.specs.Sequences.{Called}
 use Rattle.promise.specs.Counted.{triesShown, protectedShown, Shown}
 use Rattle.promise.specs.Screens.{sameLines, asShown, unshown, screens}
-use Rattle.promise.proofs.Counted.{shown-from, calls-shown}
+use Rattle.promise.proofs.Visits.{call-put4442}
+use Rattle.promise.proofs.Counted.{shown-from, calls-shown-from}
 
 -- every row of the table
 pub screens-hold : unshown 1 screens ≡ 0
@@ -32,8 +33,8 @@ pub shown4418 : (ms : List Sent) → Shown (facts Sle4418) (inserted Sle4418 0 0
 unfolding rules image4418
 shown4418 ms = shown-from Sle4418 removed 21 image4418 refl refl ms
 
--- and by calls
+-- and by calls: `card_reader_insert` puts it in
 pub called4442 : {ms : List Sent} {r image : List ℕ} → Called (rawOf (inserted Sle4442 3 0)) (image4442 0x07) ms r image
     → Shown (facts Sle4442) (inserted Sle4442 3 0) (image4442 0x07) ms (triesShown r) (protectedShown r)
 unfolding rules image4442
-called4442 calls = calls-shown Sle4442 (inserted Sle4442 3 0) (image4442 0x07) refl (record { card = refl; sound = refl }) calls
+called4442 calls = calls-shown-from Sle4442 30 (rawOf removed) (image4442 0x07) refl call-put4442 calls

@@ -120,10 +120,9 @@ sittings-go h had (m ∷ ms) =
     record { number = refl; len = refl; slot = refl; size = refl; image = refl; buffer = refl } in
     record { held = later .held; left = later .left; sequence = sat m leaves (later .sequence) }
 
--- ---- the sentence, for both
--- a code card put in by `card_reader_insert`, which returned 0
-module _ (chip : Chip) (coded : facts chip .coded ≡ true) (kind : ℕ) (known : chipOf kind ≡ Is chip) (r image : List ℕ) {left : List ℕ}
-    (g : Returns (rawInsertion r kind image) (pos 0) left image [] []) where
+-- ---- a card put in
+-- a card of any kind put in by `card_reader_insert`, which returned 0
+module _ (kind : ℕ) (r image : List ℕ) {left : List ℕ} (g : Returns (rawInsertion r kind image) (pos 0) left image [] []) where
   zero-number : (n len : ℕ) → pos 0 ≡ resultOf n len → n ≡ 0
   zero-number zero len e = refl
   zero-number (suc n) len e = cc
@@ -138,10 +137,32 @@ module _ (chip : Chip) (coded : facts chip .coded ≡ true) (kind : ℕ) (known 
       past Put (byte r 0 isnt 0) (record { put = λ e. absurd (omega arith) }) (λ _.
       record { put = λ e. (e, first _ _ (eq-eqb _ 0 e)) }))
 
-  call-put : (insertion removed kind image .number ≡ 0) × (left ≡ rawOf (insertion removed kind image .slot))
-  call-put =
+  pub call-inserts : (insertion removed kind image .number ≡ 0) × (left ≡ rawOf (insertion removed kind image .slot))
+  call-inserts =
       let p = raw-put .put (zero-number _ _ (g .result)) in
       (p .0, g .raw ∙ p .1)
+
+-- and one put in by `sitting::perform` with an insert record, which printed 0
+module _ (h : Held) (had body : List ℕ) {d : Done} {left was holds : List ℕ}
+    (g : Leaves (outcomeOf Mark.Insert body (h .slot) (take (h .size) had) leastRoom) d had left was holds) (zero : d .number ≡ 0) where
+  pub record-accepted : insertion (h .slot) (byte body 0) (drop 1 body) .number ≡ 0
+  unfolding outcomeOf holding
+  record-accepted = sym (g .number) ∙ zero
+
+  pub held-card : take (d .held .size) left ≡ insertion (h .slot) (byte body 0) (drop 1 body) .image
+  unfolding outcomeOf holding
+  held-card = held-is g ∙ first _ _ (eq-eqb _ 0 record-accepted)
+
+  pub held-slot : d .held .slot ≡ insertion (h .slot) (byte body 0) (drop 1 body) .slot
+  unfolding outcomeOf holding
+  held-slot = g .slot
+
+-- ---- the sentence, for both
+-- a code card put in by `card_reader_insert`, which returned 0
+module _ (chip : Chip) (coded : facts chip .coded ≡ true) (kind : ℕ) (known : chipOf kind ≡ Is chip) (r image : List ℕ) {left : List ℕ}
+    (g : Returns (rawInsertion r kind image) (pos 0) left image [] []) where
+  call-put : (insertion removed kind image .number ≡ 0) × (left ≡ rawOf (insertion removed kind image .slot))
+  call-put = call-inserts kind r image g
 
   pub call-puts-in : PutIn chip removed kind image
   call-puts-in = record { coded = coded; known = known; accepted = call-put .0 }
@@ -176,25 +197,13 @@ module _ (chip : Chip) (coded : facts chip .coded ≡ true) (h : Held) (had body
   abbrev put : Outcome
   put = insertion (h .slot) (byte body 0) card
 
-  record-accepted : put .number ≡ 0
-  unfolding outcomeOf holding
-  record-accepted = sym (g .number) ∙ zero
-
   pub record-puts-in : PutIn chip (h .slot) (byte body 0) card
-  record-puts-in = record { coded = coded; known = known; accepted = record-accepted }
-
-  held-card : take (d .held .size) left ≡ put .image
-  unfolding outcomeOf holding
-  held-card = held-is g ∙ first _ _ (eq-eqb _ 0 record-accepted)
-
-  held-slot : d .held .slot ≡ put .slot
-  unfolding outcomeOf holding
-  held-slot = g .slot
+  record-puts-in = record { coded = coded; known = known; accepted = record-accepted h had body g zero }
 
   -- then the slot and the image that are held after any message records are the run's
   pub sittings-run : {ms : List Sent} {h′ : Held} {left′ : List ℕ} → Sat (d .held) left ms h′ left′
       → (h′ .slot ≡ runFrom (h .slot) (byte body 0) card ms .slot) × (take (h′ .size) left′ ≡ runFrom (h .slot) (byte body 0) card ms .image)
-  sittings-run later = sat-run later (put .slot) (put .image) held-slot held-card
+  sittings-run later = sat-run later (put .slot) (put .image) (held-slot h had body g zero) (held-card h had body g zero)
 
   pub sittings-remain : {ms : List Sent} {h′ : Held} {left′ : List ℕ} → Sat (d .held) left ms h′ left′
       → Sentence (facts chip) (put .slot) (put .image) ms (take (h′ .size) left′)
