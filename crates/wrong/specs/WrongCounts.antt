@@ -91,13 +91,18 @@ countsLong = refusing λ s image. let f = cardIn (s .holds) in s .protected is z
 abbrev pub countsFree : Reader
 countsFree = refusing λ s image. let f = cardIn (s .holds) in f .covered is 0 or s .protected is (f .covered - countIn f image)
 
--- counts the protected bytes that D1 reaches alone
+-- counts no protection byte that D1 does not reach whole
 abbrev pub countsReach : Reader
 countsReach = refusing λ s image. let f = cardIn (s .holds) in s .protected is zerosIn (f .reach / 8) f image
 
--- counts the protection bytes that have a zero bit as eight bytes each
+-- eight for each byte that is not FFh
+unfoldable pub eights : List ℕ → ℕ
+eights [] = 0
+eights (b ∷ bs) = (b is 0xFF ⇒ 0 ⁏ 8) + eights bs
+
+-- counts a protection byte that is not FFh as eight protected bytes
 abbrev pub countsByEight : Reader
-countsByEight = refusing λ s image. s .protected % 8 is 0
+countsByEight = refusing λ s image. let f = cardIn (s .holds) in s .protected is eights (take (f .covered / 8) (drop (f .bits) image))
 
 -- ---- a code presented
 -- shows one try too many after a wrong code: those there were before it
@@ -174,11 +179,11 @@ typeForgets type = upon type λ s image o. slotting (bare (o .slot)) o
 abbrev pub commandForgets : ℕ → Reader
 commandForgets ins = doing ins λ f s image d e. stands (bare (e .slot)) e
 
--- shows all tries after D2
-abbrev pub changeShowsAll : Reader
-changeShowsAll = doing 0xD2 λ f s image d e. stands (triesAs (tries (f .full) + 1) (e .slot)) e
+-- shows a try more than all after D2
+abbrev pub changeShowsMore : Reader
+changeShowsMore = doing 0xD2 λ f s image d e. stands (triesAs (tries (f .full) + 1) (e .slot)) e
 
--- counts the bytes that D0 passes over
+-- counts the bytes that D0 left different as protected anew
 abbrev pub writeCounts : Reader
 writeCounts = doing 0xD0 λ f s image d e. f .page isnt 0 ⇒ e ⁏ stands (protectedAs (s .protected + p3 d - equals (e .image) (place d) (body d)) (e .slot)) e
 
@@ -232,5 +237,5 @@ removeKeepsProtected s = protectedAs (s .protected) removed
 
 -- the words of these at once, for what is proved by computing them
 unfoldable pub countParts : ℕ
-unfolding equals
+unfolding equals eights
 countParts = 0
