@@ -10,7 +10,7 @@ use lib.Seq.{take-suc, getD-drop}
 use lib.IntN.{pos}
 use borrow.Author.Tests.{eqb-true, eqb-false, not-true, not-false}
 use mathlib.Core.Logic.{inl}
-use Rattle.words.specs.Choice.{_⇒_⁏_, _and_, _is_}
+use Rattle.words.specs.Choice.{_⇒_⁏_, _is_}
 use Rattle.words.specs.Bytes.{byte, lowFirst}
 use Rattle.words.specs.Bounds.{leastRoom}
 use Rattle.words.proofs.Choices.{either, rest, and-fails, and-holds}
@@ -54,7 +54,7 @@ use Rattle.sitting.specs.Sittings.{outcomeOf, Leaves}
 use Rattle.promise.specs.Tries.{runFrom}
 use Rattle.promise.specs.Protected.{protectedIn}
 use Rattle.promise.specs.Sequences.{Called, Sat}
-use Rattle.promise.specs.Counted.{places, newly, addedBy, added, addedIn, triesShown, protectedShown, Shown}
+use Rattle.promise.specs.Counted.{places, oneNew, newly, addedBy, added, addedIn, triesShown, protectedShown, Shown}
 use Rattle.promise.proofs.RunLaws.{run-holds, run-proper}
 use Rattle.promise.proofs.Inserted.{put-in-slot, put-image}
 use Rattle.promise.proofs.Tries.{tries-left}
@@ -135,17 +135,17 @@ module _ (chip : Chip) where
   newly-same image image′ k [] same bits = refl
   newly-same image image′ k (v ∷ b) same bits =
       ap₂ (λ (x y : ℕ). x + y)
-      (ap₂ (λ (x : ℕ) (p : Bool). x is v and not p ⇒ 1 ⁏ 0) (same k (omega arith) (omega arith)) (bits k (omega arith)))
+      (ap₂ (λ (x : ℕ) (p : Bool). oneNew x v p) (same k (omega arith) (omega arith)) (bits k (omega arith)))
       (newly-same image image′ (k + 1) b (λ j h l. same j (omega arith) (omega arith)) (λ j h. bits j (omega arith)))
 
   -- one byte
   one-more : (image : List ℕ) (k v : ℕ) → k < f .covered → length image ≡ f .size
-      → countIn f (byte image k is v ⇒ protecting (f .bits) (f .covered) image k ⁏ image) ≡ countIn f image + (byte image k is v and not (protectedIn f image k) ⇒ 1 ⁏ 0)
+      → countIn f (byte image k is v ⇒ protecting (f .bits) (f .covered) image k ⁏ image) ≡ countIn f image + oneNew (byte image k) v (protectedIn f image k)
   one-more image k v h long =
       let b : ℕ = bitOf (byte image (f .bits + k / 8)) (k % 8) in
-      either (λ (x : List ℕ). countIn f x ≡ countIn f image + (byte image k is v and not (protectedIn f image k) ⇒ 1 ⁏ 0)) (byte image k is v)
+      either (λ (x : List ℕ). countIn f x ≡ countIn f image + oneNew (byte image k) v (protectedIn f image k)) (byte image k is v)
       (λ e.
-      let bit : (byte image k is v and not (protectedIn f image k) ⇒ 1 ⁏ 0) ≡ b =
+      let bit : oneNew (byte image k) v (protectedIn f image k) ≡ b =
       ap (λ (x : Bool). x ⇒ 1 ⁏ 0) (sym (and-holds e refl) ∙ ap not (protected-covered (f .bits) (f .covered) image k h))
       ∙ either (λ (n : ℕ). n ≡ b) (not (b is 0)) (λ q. omega (arith, eqb-false b 0 (not-true _ q))) (λ q. omega (arith, eqb-true b 0 (not-false _ q))) in
       omega (arith, bit, count-protecting (f .bits) (f .covered) image k h (omega (arith, laid chip .words)) (omega (arith, long, laid chip .guards))))

@@ -4,7 +4,7 @@
 -- the slot record and have insertion, removal, code presentation and D1 keep them true."
 use Prim.Native.Nat.{ℕ, zero, suc, _+_, _*_}
 use mathlib.Core.Path.{_≡_}
-use mathlib.Core.Bool.{true, false, not}
+use mathlib.Core.Bool.{Bool, true, false, not}
 use mathlib.Core.List.{List, [], _∷_}
 use Rattle.words.specs.Choice.{_⇒_⁏_, _and_, _is_}
 use Rattle.words.specs.Bytes.{byte}
@@ -26,10 +26,14 @@ unfoldable pub places : Facts → List ℕ → ℕ → ℕ
 places f image zero = 0
 places f image (suc k) = (protectedIn f image k ⇒ 1 ⁏ 0) + places f image k
 
--- D1 sends b from k on: the bytes that it carries the value of and that were not protected before
+-- D1 sends b from k on: the bytes that it carries the value of and that were not protected before. One byte x for which v is sent counts where the
+-- two are equal and it was not protected
+abbrev pub oneNew : ℕ → ℕ → Bool → ℕ
+oneNew x v was = x is v and not was ⇒ 1 ⁏ 0
+
 unfoldable pub newly : Facts → List ℕ → ℕ → List ℕ → ℕ
 newly f image k [] = 0
-newly f image k (v ∷ b) = (byte image k is v and not (protectedIn f image k) ⇒ 1 ⁏ 0) + newly f image (k + 1) b
+newly f image k (v ∷ b) = oneNew (byte image k) v (protectedIn f image k) + newly f image (k + 1) b
 
 -- what an order, a message, a run of messages adds to it
 abbrev pub addedBy : Facts → List ℕ → List ℕ → Order → ℕ
