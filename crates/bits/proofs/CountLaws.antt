@@ -21,13 +21,13 @@ zeros-ones (suc n) b h =
     let later : zeroBits n (b / 2) + ones (b / 2) ≡ n = zeros-ones n (b / 2) (omega (arith, pow-suc 2 n)) in
     omega (arith, later, ones-step b)
 
-pub zeros-within : (n b : ℕ) → zeroBits n b ≤ n
+zeros-within : (n b : ℕ) → zeroBits n b ≤ n
 unfolding zeroBits
 zeros-within zero b = omega arith
 zeros-within (suc n) b = omega (arith, zeros-within n (b / 2))
 
 -- a bit cleared is one more, where it was 1
-pub zeros-cleared : (n b i : ℕ) → i < n → zeroBits n (cleared b i) ≡ zeroBits n b + bitOf b i
+zeros-cleared : (n b i : ℕ) → i < n → zeroBits n (cleared b i) ≡ zeroBits n b + bitOf b i
 unfolding zeroBits cleared
 zeros-cleared zero b i h = absurd (omega arith)
 zeros-cleared (suc n) b zero h = let e : (b - b / 1 % 2 * 1) / 2 ≡ b / 2 = omega arith in omega (arith, ap (zeroBits n) e)

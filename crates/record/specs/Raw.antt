@@ -4,7 +4,7 @@ use mathlib.Core.Bool.{Bool, true, false, not}
 use mathlib.Core.List.{List, _∷_, _++_}
 use lib.ListN.{length, drop, replicate}
 use lib.Dec.{ltb}
-use Rattle.words.specs.Choice.{_⇒_⁏_, _and_, _is_, _isnt_}
+use Rattle.words.specs.Choice.{_⇒_⁏_, _is_, _isnt_}
 use Rattle.words.specs.Bytes.{byte, blank, eightAt, lowFirst}
 use Rattle.chips.specs.declared.Known.{Known}
 use Rattle.chips.specs.declared.Known.the-variants.{Is, Unknown}
