@@ -5,7 +5,7 @@ use mathlib.Core.Bool.{true, false}
 use mathlib.Core.List.{List, [], _∷_}
 use Rattle.words.specs.Choice.{_⇒_⁏_, _is_}
 use Rattle.chips.specs.declared.Chip.{Chip}
-use Rattle.chips.specs.declared.Chip.the-variants.{I2c1, I2c2, I2c4, I2c8, I2c16, I2c32, I2c64, I2c128, I2c256, Sle4428, Sle4418, Sle4442, Sle4432}
+use Rattle.chips.specs.declared.Chip.the-variants.{I2c1, I2c2, I2c4, I2c8, I2c16, I2c32, I2c64, I2c128, I2c256, I2c512, I2c1024, Sle4428, Sle4418, Sle4442, Sle4432}
 use Rattle.chips.specs.declared.Facts.{Facts}
 use Rattle.chips.specs.declared.Known.{Known}
 use Rattle.chips.specs.declared.Known.the-variants.{Is, Unknown}
@@ -61,6 +61,9 @@ facts I2c32 = i2c 6 4096 32 0x02
 facts I2c64 = i2c 7 8192 32 0x02
 facts I2c128 = i2c 8 16384 64 0x02
 facts I2c256 = i2c 9 32768 64 0x02
+-- 02: "kinds 10 and 11, 65536 and 131072 bytes, chip pages 128 and 256, type 02h"
+facts I2c512 = i2c 10 65536 128 0x02
+facts I2c1024 = i2c 11 131072 256 0x02
 -- SLE4428 image: 1024 memory bytes, of which 3FDh is the counter and 3FEh, 3FFh the code, then 128 protection bytes
 facts Sle4428 = record {
   kind = 20;
@@ -102,7 +105,7 @@ facts Sle4432 = withoutCode 31 264 256 0x06 32 260
 
 -- every chip, once
 abbrev pub chips : List Chip
-chips = I2c1 ∷ I2c2 ∷ I2c4 ∷ I2c8 ∷ I2c16 ∷ I2c32 ∷ I2c64 ∷ I2c128 ∷ I2c256 ∷ Sle4428 ∷ Sle4418 ∷ Sle4442 ∷ Sle4432 ∷ []
+chips = I2c1 ∷ I2c2 ∷ I2c4 ∷ I2c8 ∷ I2c16 ∷ I2c32 ∷ I2c64 ∷ I2c128 ∷ I2c256 ∷ I2c512 ∷ I2c1024 ∷ Sle4428 ∷ Sle4418 ∷ Sle4442 ∷ Sle4432 ∷ []
 
 -- the chip of a kind number: the one whose row has it
 unfoldable pub chipAmong : ℕ → List Chip → Known

@@ -16,6 +16,8 @@ pub enum Chip {
     I2c64,
     I2c128,
     I2c256,
+    I2c512,
+    I2c1024,
     Sle4418,
     Sle4432,
     Sle4428,
@@ -122,6 +124,8 @@ impl Chip {
             Chip::I2c64 => i2c_row(7, 8192, 32, 0x02),
             Chip::I2c128 => i2c_row(8, 16384, 64, 0x02),
             Chip::I2c256 => i2c_row(9, 32768, 64, 0x02),
+            Chip::I2c512 => i2c_row(10, 65536, 128, 0x02),
+            Chip::I2c1024 => i2c_row(11, 131072, 256, 0x02),
             Chip::Sle4428 => Facts {
                 kind: 20,
                 size: 1152,
@@ -174,10 +178,12 @@ pub fn chip_of(kind: u8) -> Known
         7 => Known::Is(Chip::I2c64),
         8 => Known::Is(Chip::I2c128),
         9 => Known::Is(Chip::I2c256),
+        10 => Known::Is(Chip::I2c512),
+        11 => Known::Is(Chip::I2c1024),
         20 => Known::Is(Chip::Sle4428),
         21 => Known::Is(Chip::Sle4418),
         30 => Known::Is(Chip::Sle4442),
         31 => Known::Is(Chip::Sle4432),
-        0 | 10..=19 | 22..=29 | 32..=255 => Known::Unknown,
+        0 | 12..=19 | 22..=29 | 32..=255 => Known::Unknown,
     }
 }

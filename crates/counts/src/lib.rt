@@ -6,9 +6,9 @@ use words::byte_at;
 use words::eight_at;
 use words::four_at;
 ghost use mathlib.Core.Path.{_≡_};
-ghost use Prim.Native.Nat.{_%_, _<_};
+ghost use Prim.Native.Nat.{_%_, _≤_};
 ghost use lib.ListN.{length};
-ghost use Rattle.words.specs.Bounds.{addresses};
+ghost use Rattle.words.specs.Bounds.{largest};
 ghost use Rattle.bits.specs.Bits.{zerosOf};
 ghost use Rattle.counts.specs.Counts.{triesOf, protectedOf};
 
@@ -27,7 +27,7 @@ pub fn tries_of(holds: Holds, image: &[u8]) -> u8
 
 // How many bits of these bytes are 0: eight bytes at a time, and four where they are left.
 fn zeros_in(bytes: &[u8]) -> usize
-    requires { ⌜ (length (now bytes) < addresses) × (length (now bytes) % 4 ≡ 0) ⌝ }
+    requires { ⌜ (length (now bytes) ≤ largest) × (length (now bytes) % 4 ≡ 0) ⌝ }
     ensures { λ r. ⌜ r ≡ zerosOf (now (bytes .entry)) ⌝ }
 {
     let mut zeros = 0;

@@ -1,17 +1,17 @@
-// The steps of the commands that a closed card refuses, or that open it: D0, D1, 20, D2. Inner functions: they ask that P1P2 and P3 come
-// from bytes. The rules are those of `steps`.
+// The steps of the commands that a closed card refuses, or that open it: D0, D1, 20, D2. Inner functions: they ask that P3 comes from a
+// byte. The rules are those of `steps`.
 
 use chips::Chip;
 use slot::Slot;
 use steps::Order;
+use steps::Ranged;
 use steps::Status;
 ghost use mathlib.Core.Path.{_≡_};
 ghost use mathlib.Core.Bool.{not};
 ghost use Prim.Native.Nat.{ℕ, _<_};
 ghost use Rattle.words.specs.Choice.{_and_};
-ghost use Rattle.words.specs.Bounds.{addresses};
 ghost use Rattle.chips.specs.Kinds.{facts};
-ghost use Rattle.steps.specs.Steps.{Write, Protect, Present, Change, has, placeFits, steps};
+ghost use Rattle.steps.specs.Steps.{Write, Protect, Present, Change, has, steps};
 
 // A code card that is closed.
 fn locked(chip: Chip, slot: Slot) -> bool
@@ -23,24 +23,10 @@ fn locked(chip: Chip, slot: Slot) -> bool
     !slot.open
 }
 
-// In the memory, and not over the counter.
-fn write_place(chip: Chip, at: usize, p: usize) -> bool
-    requires { ⌜ (at < addresses) × (p < 256) ⌝ }
-    ensures { λ r. ⌜ r ≡ placeFits (facts chip) Write at p ⌝ }
-{
-    if chip.facts().memory < at + p {
-        return false;
-    }
-    if at + p <= chip.facts().counter {
-        return true;
-    }
-    chip.facts().counter < at
-}
-
 // D0. What is protected is not asked here: the storing passes over it.
-pub fn write_order(chip: Chip, slot: Slot, n: usize, at: usize, p: usize) -> Order
-    requires { ⌜ (at < addresses) × (p < 256) ⌝ }
-    ensures { λ r. ⌜ ((v : ℕ) → r ≡ steps (facts chip) slot n at p v Write) ⌝ }
+pub fn write_order(chip: Chip, slot: Slot, n: usize, p: usize, ranged: Ranged) -> Order
+    requires { ⌜ p < 256 ⌝ }
+    ensures { λ r. ⌜ ((v : ℕ) → r ≡ steps (facts chip) slot n p v Write ranged) ⌝ }
 {
     if slot.selected == 0 {
         return Order::Refuse(Status::Unselected);
@@ -51,9 +37,9 @@ pub fn write_order(chip: Chip, slot: Slot, n: usize, at: usize, p: usize) -> Ord
     if p < 1 {
         return Order::Refuse(Status::Length);
     }
-    if !write_place(chip, at, p) {
+    let Ranged::At(at) = ranged else {
         return Order::Refuse(Status::Place);
-    }
+    };
     if locked(chip, slot) {
         return Order::Refuse(Status::Denied);
     }
@@ -61,9 +47,9 @@ pub fn write_order(chip: Chip, slot: Slot, n: usize, at: usize, p: usize) -> Ord
 }
 
 // D1.
-pub fn protect_order(chip: Chip, slot: Slot, n: usize, at: usize, p: usize) -> Order
-    requires { ⌜ (at < addresses) × (p < 256) ⌝ }
-    ensures { λ r. ⌜ ((v : ℕ) → r ≡ steps (facts chip) slot n at p v Protect) ⌝ }
+pub fn protect_order(chip: Chip, slot: Slot, n: usize, p: usize, ranged: Ranged) -> Order
+    requires { ⌜ p < 256 ⌝ }
+    ensures { λ r. ⌜ ((v : ℕ) → r ≡ steps (facts chip) slot n p v Protect ranged) ⌝ }
 {
     if slot.selected == 0 {
         return Order::Refuse(Status::Unselected);
@@ -77,9 +63,9 @@ pub fn protect_order(chip: Chip, slot: Slot, n: usize, at: usize, p: usize) -> O
     if p < 1 {
         return Order::Refuse(Status::Length);
     }
-    if chip.facts().reach < at + p {
+    let Ranged::At(at) = ranged else {
         return Order::Refuse(Status::Place);
-    }
+    };
     if locked(chip, slot) {
         return Order::Refuse(Status::Denied);
     }
@@ -87,9 +73,9 @@ pub fn protect_order(chip: Chip, slot: Slot, n: usize, at: usize, p: usize) -> O
 }
 
 // 20.
-pub fn present_order(chip: Chip, slot: Slot, n: usize, at: usize, p: usize) -> Order
+pub fn present_order(chip: Chip, slot: Slot, n: usize, p: usize, ranged: Ranged) -> Order
     requires { ⌜ p < 256 ⌝ }
-    ensures { λ r. ⌜ ((v : ℕ) → r ≡ steps (facts chip) slot n at p v Present) ⌝ }
+    ensures { λ r. ⌜ ((v : ℕ) → r ≡ steps (facts chip) slot n p v Present ranged) ⌝ }
 {
     if slot.selected == 0 {
         return Order::Refuse(Status::Unselected);
@@ -103,9 +89,9 @@ pub fn present_order(chip: Chip, slot: Slot, n: usize, at: usize, p: usize) -> O
     if p != chip.facts().digits {
         return Order::Refuse(Status::Length);
     }
-    if at != 0 {
+    let Ranged::At(_) = ranged else {
         return Order::Refuse(Status::Place);
-    }
+    };
     Order::Present
 }
 
@@ -120,9 +106,9 @@ fn has_change(chip: Chip) -> bool
 }
 
 // D2.
-pub fn change_order(chip: Chip, slot: Slot, n: usize, at: usize, p: usize) -> Order
+pub fn change_order(chip: Chip, slot: Slot, n: usize, p: usize, ranged: Ranged) -> Order
     requires { ⌜ p < 256 ⌝ }
-    ensures { λ r. ⌜ ((v : ℕ) → r ≡ steps (facts chip) slot n at p v Change) ⌝ }
+    ensures { λ r. ⌜ ((v : ℕ) → r ≡ steps (facts chip) slot n p v Change ranged) ⌝ }
 {
     if slot.selected == 0 {
         return Order::Refuse(Status::Unselected);
@@ -136,9 +122,9 @@ pub fn change_order(chip: Chip, slot: Slot, n: usize, at: usize, p: usize) -> Or
     if p != chip.facts().digits {
         return Order::Refuse(Status::Length);
     }
-    if at != 1 {
+    let Ranged::At(_) = ranged else {
         return Order::Refuse(Status::Place);
-    }
+    };
     if locked(chip, slot) {
         return Order::Refuse(Status::Denied);
     }

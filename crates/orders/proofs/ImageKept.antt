@@ -31,7 +31,7 @@ use Rattle.stores.specs.Stores.{storing}
 use Rattle.stores.proofs.StoreLaws.{length-storing, byte-outside}
 use Rattle.codes.proofs.CodeLaws.{presenting-either, length-presenting, byte-presenting, byte-spending, byte-full}
 use Rattle.steps.specs.declared.Order.{Order}
-use Rattle.steps.specs.Steps.{Ins, Select, Page, Read, Counter, Bits, Write, Protect, Present, Change, Other, place, p3, body, ordered, presents, order}
+use Rattle.steps.specs.Steps.{Ins, Select, Page, Read, Counter, Bits, Write, Protect, Present, Change, Other, p3, body, ordered, presents, order}
 use Rattle.orders.specs.Orders.{afterCode, written, imageBy}
 use Rattle.steps.proofs.Decisions.{Passed, Decided, refused, through, decided}
 use Rattle.steps.proofs.PresentAgain.{presents-is}
@@ -239,19 +239,20 @@ module _ (f : Facts) (s : Slot) (image d : List ℕ) (coded : f .coded ≡ true)
   shut-decided : {o : Order} → Decided f s d o → presents o ≡ false → imageBy f s image (body d) o ≡ image
   unfolding imageBy _and_
   shut-decided (refused status) ne = refl
-  shut-decided (through i p) ne = go i p ne
+  shut-decided (through i at p) ne = go i at p ne
     where
-      go : (i : Ins) → Passed f s d i → presents (ordered i (place d) (p3 d) (byte d 5)) ≡ false → imageBy f s image (body d) (ordered i (place d) (p3 d) (byte d 5)) ≡ image
-      go Select p ne = refl
-      go Page p ne = refl
-      go Read p ne = refl
-      go Counter p ne = refl
-      go Bits p ne = refl
-      go Write p ne = denied (p .allowed)
-      go Protect p ne = denied (p .allowed)
-      go Present p ne = absurd (true≢false ne)
-      go Change p ne = denied (p .allowed)
-      go Other p ne = refl
+      go : (i : Ins) (at : ℕ) → Passed f s d i at → presents (ordered i at (p3 d) (byte d 5)) ≡ false
+          → imageBy f s image (body d) (ordered i at (p3 d) (byte d 5)) ≡ image
+      go Select at p ne = refl
+      go Page at p ne = refl
+      go Read at p ne = refl
+      go Counter at p ne = refl
+      go Bits at p ne = refl
+      go Write at p ne = denied (p .allowed)
+      go Protect at p ne = denied (p .allowed)
+      go Present at p ne = absurd (true≢false ne)
+      go Change at p ne = denied (p .allowed)
+      go Other at p ne = refl
 
   -- nothing but a presented code changes a byte
   pub shut-kept : presents (order f s d) ≡ false → imageBy f s image (body d) (order f s d) ≡ image

@@ -25,7 +25,7 @@ use Rattle.card.proofs.ImageLaws.{IsCard}
 use Rattle.codes.proofs.CodeLaws.{byte-presenting}
 use Rattle.slot.specs.declared.Slot.{Slot}
 use Rattle.steps.specs.declared.Order.{Order}
-use Rattle.steps.specs.Steps.{Ins, Select, Page, Read, Counter, Bits, Write, Protect, Present, Change, Other, place, p3, body, ordered, order}
+use Rattle.steps.specs.Steps.{Ins, Select, Page, Read, Counter, Bits, Write, Protect, Present, Change, Other, p3, body, ordered, order}
 use Rattle.steps.specs.Fits.{Fit}
 use Rattle.steps.proofs.Decisions.{Passed, Decided, refused, through, decided, fit-decided, order-fits}
 use Rattle.orders.specs.Orders.{imageBy, carriesBy}
@@ -55,27 +55,27 @@ module _ (chip : Chip) (s : Slot) (image : List ℕ) (k : ℕ) where
     no-counter : k ≢ f .counter
     no-counter q = no-test e (ap (isProtected (f .bits) (f .covered) image) q ∙ c .bare)
 
-    value-passed : (d : List ℕ) (i : Ins) → Passed f s d i → Fit f (body d) (ordered i (place d) (p3 d) (byte d 5))
-        → byte (imageBy f s image (body d) (ordered i (place d) (p3 d) (byte d 5))) k ≡ byte image k
+    value-passed : (d : List ℕ) (i : Ins) (at : ℕ) → Passed f s d i at → Fit f (body d) (ordered i at (p3 d) (byte d 5))
+        → byte (imageBy f s image (body d) (ordered i at (p3 d) (byte d 5))) k ≡ byte image k
     unfolding imageBy
-    value-passed d Select p h = refl
-    value-passed d Page p h = refl
-    value-passed d Read p h = refl
-    value-passed d Counter p h = refl
-    value-passed d Bits p h = refl
-    value-passed d Write p h =
-        ap (λ (l : List ℕ). byte l k) (written-stores f s image (body d) (with-bits .pageless) (s .page) (place d))
-        ∙ byte-passed (f .bits) (f .covered) image (place d) (body d) k (omega (arith, h .0, with-bits .behind)) e
-    value-passed d Protect p h =
-        byte-protectEqual (f .bits) (f .covered) image (place d) (body d) k (inl (omega (arith, covered-by e, laid chip .kept, with-bits .behind)))
-    value-passed d Present p h = byte-presenting (f .counter) (f .full) (f .code) (f .digits) image (body d) k no-counter
-    value-passed d Change p h = byte-sets image (f .code) (body d) k (inl (omega (arith, covered-by e, with-bits .past (p .had))))
-    value-passed d Other p h = refl
+    value-passed d Select at p h = refl
+    value-passed d Page at p h = refl
+    value-passed d Read at p h = refl
+    value-passed d Counter at p h = refl
+    value-passed d Bits at p h = refl
+    value-passed d Write at p h =
+        ap (λ (l : List ℕ). byte l k) (written-stores f s image (body d) (with-bits .pageless) (s .page) at)
+        ∙ byte-passed (f .bits) (f .covered) image at (body d) k (omega (arith, h .0, with-bits .behind)) e
+    value-passed d Protect at p h =
+        byte-protectEqual (f .bits) (f .covered) image at (body d) k (inl (omega (arith, covered-by e, laid chip .kept, with-bits .behind)))
+    value-passed d Present at p h = byte-presenting (f .counter) (f .full) (f .code) (f .digits) image (body d) k no-counter
+    value-passed d Change at p h = byte-sets image (f .code) (body d) k (inl (omega (arith, covered-by e, with-bits .past (p .had))))
+    value-passed d Other at p h = refl
 
     value-decided : (d : List ℕ) {o : Order} → Decided f s d o → byte (imageBy f s image (body d) o) k ≡ byte image k
     unfolding imageBy
     value-decided d (refused status) = refl
-    value-decided d (through i p) = value-passed d i p (fit-decided f s d (through i p))
+    value-decided d (through i at p) = value-passed d i at p (fit-decided f s d (through i at p))
 
     -- a protected byte keeps its value
     pub value-kept : (d : List ℕ) → byte (imageBy f s image (body d) (order f s d)) k ≡ byte image k

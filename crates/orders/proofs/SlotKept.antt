@@ -27,7 +27,7 @@ use Rattle.sound.proofs.SoundLaws.{Sound, image-sound, selecting-sound, paged-s
 use Rattle.codes.specs.Counters.{tries}
 use Rattle.codes.proofs.CodeLaws.{accepts-full}
 use Rattle.steps.specs.declared.Order.{Order}
-use Rattle.steps.specs.Steps.{Ins, Select, Page, Read, Counter, Bits, Write, Protect, Present, Change, Other, place, p3, body, ordered, presents, order}
+use Rattle.steps.specs.Steps.{Ins, Select, Page, Read, Counter, Bits, Write, Protect, Present, Change, Other, p3, body, ordered, presents, order}
 use Rattle.orders.specs.Orders.{afterCode, rightCode, imageBy, slotBy}
 use Rattle.steps.proofs.Decisions.{Passed, Decided, refused, through, decided, fit-decided}
 use Rattle.steps.specs.Fits.{Fit}
@@ -139,23 +139,23 @@ module _ (chip : Chip) (s : Slot) (image d : List ℕ) (holds : s .holds ≡ Car
   pub decided-sound : {o : Order} → Decided (facts chip) s d o → After o
   unfolding slotBy imageBy _and_
   decided-sound (refused status) = r
-  decided-sound (through i p) = go i p
+  decided-sound (through i at p) = go i at p
     where
-      go : (i : Ins) → Passed (facts chip) s d i → After (ordered i (place d) (p3 d) (byte d 5))
-      go Select p = subst (λ (t : ℕ). Sound (selecting t s) image) (ap ownType holds) (selecting-sound s image on r)
-      go Page p = paged-sound s image (2 ^ byte d 5) (page-sized (byte d 5) (p .valued)) (ap occupied holds) r
-      go Read p = r
-      go Counter p = r
-      go Bits p = r
-      go Write p =
-          let h = fit-decided (facts chip) s d (through Write p) in
-          moved (Order.Write (place d)) (s .protected) h refl (had ∙ sym (count-written chip s image (body d) (s .page) (place d) (h .0)))
-      go Protect p = moved (Order.Protect (place d)) _ (fit-decided (facts chip) s d (through Protect p)) refl refl
-      go Present p = presented (p .had) (p .ready)
-      go Change p =
-          let h = fit-decided (facts chip) s d (through Change p) in
+      go : (i : Ins) (at : ℕ) → Passed (facts chip) s d i at → After (ordered i at (p3 d) (byte d 5))
+      go Select at p = subst (λ (t : ℕ). Sound (selecting t s) image) (ap ownType holds) (selecting-sound s image on r)
+      go Page at p = paged-sound s image (2 ^ byte d 5) (page-sized (byte d 5) (p .valued)) (ap occupied holds) r
+      go Read at p = r
+      go Counter at p = r
+      go Bits at p = r
+      go Write at p =
+          let h = fit-decided (facts chip) s d (through Write at p) in
+          moved (Order.Write at) (s .protected) h refl (had ∙ sym (count-written chip s image (body d) (s .page) at (h .0)))
+      go Protect at p = moved (Order.Protect at) _ (fit-decided (facts chip) s d (through Protect at p)) refl refl
+      go Present at p = presented (p .had) (p .ready)
+      go Change at p =
+          let h = fit-decided (facts chip) s d (through Change at p) in
           moved Order.Change (s .protected) h refl (had ∙ sym (count-changed chip s image (body d) (h .1)))
-      go Other p = r
+      go Other at p = r
 
   -- a command of an active slot leaves a sound record
   pub order-sound : After (order (facts chip) s d)

@@ -7,7 +7,7 @@ ghost use mathlib.Core.Path.{_≡_};
 ghost use Prim.Native.Nat.{_+_, _%_, _≤_, _<_};
 ghost use lib.ListN.{length};
 ghost use lib.Seq.{sets};
-ghost use Rattle.words.specs.Bounds.{addresses};
+ghost use Rattle.words.specs.Bounds.{largest};
 ghost use Rattle.pages.specs.Pages.{cutStart, lands, pageWrite};
 ghost use Rattle.pages.specs.Inner.{OnPages};
 
@@ -29,7 +29,7 @@ fn cut_start(reader: usize, c: usize, a: usize) -> usize
 
 // Where the byte for address a lands, in a cut that starts at c.
 fn landing(chip: usize, c: usize, a: usize) -> usize
-    requires { ⌜ (0 < chip) × (chip < addresses) × (c ≤ a) × (a < addresses) ⌝ }
+    requires { ⌜ (0 < chip) × (chip ≤ largest) × (c ≤ a) × (a ≤ largest) ⌝ }
     ensures { λ r. ⌜ r ≡ lands chip c a ⌝ }
 {
     let low = c % chip;

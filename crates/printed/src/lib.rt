@@ -5,7 +5,7 @@ use lines::put_line;
 use records::Mark;
 use records::Record;
 use sitting::Held;
-use words::LARGEST;
+use words::LARGEST_HELD;
 use words::LINE;
 use words::ROOM;
 use words::lay;
@@ -35,7 +35,7 @@ pub fn turn(
     mark: Mark,
     body: &[u8],
     held: Held,
-    image: &mut [u8; LARGEST],
+    image: &mut [u8; LARGEST_HELD],
     answer: &mut [u8; ROOM],
     out: &mut [u8; LINE],
 ) -> Turned

@@ -29,8 +29,8 @@ use Rattle.reader.proofs.Fronting.{exchange-fronted}
 use Rattle.calls.specs.Calls.{RawOutcome, keeping, rawServed, rawFronted, rawExchange, rawInsertion, resultOf, Returns}
 use Rattle.sitting.specs.declared.Held.{Held}
 use Rattle.sitting.specs.declared.Done.{Done}
-use Rattle.sitting.specs.Sittings.{outcomeOf, holding, Leaves}
-use Rattle.sitting.proofs.Holding.{held-is}
+use Rattle.sitting.specs.Sittings.{outcomeOf, holding, takenFor, Leaves}
+use Rattle.sitting.proofs.Holding.{held-is, accepted-kind}
 use Rattle.vectors.specs.Sessions.{lent}
 use Rattle.promise.specs.Tries.{PutIn, runFrom, Sentence}
 use Rattle.counts.specs.Counts.{triesIn}
@@ -145,17 +145,24 @@ module _ (kind : ℕ) (r image : List ℕ) {left : List ℕ} (g : Returns (rawIn
 -- and one put in by `sitting::perform` with an insert record, which printed 0
 module _ (h : Held) (had body : List ℕ) {d : Done} {left was holds : List ℕ}
     (g : Leaves (outcomeOf Mark.Insert body (h .slot) (take (h .size) had) leastRoom) d had left was holds) (zero : d .number ≡ 0) where
-  pub record-accepted : insertion (h .slot) (byte body 0) (drop 1 body) .number ≡ 0
+  -- of the kind that the program takes the kind byte for, and that is the kind byte
+  taken-accepted : insertion (h .slot) (takenFor (byte body 0)) (drop 1 body) .number ≡ 0
   unfolding outcomeOf holding
-  record-accepted = sym (g .number) ∙ zero
+  taken-accepted = sym (g .number) ∙ zero
+
+  put-same : insertion (h .slot) (takenFor (byte body 0)) (drop 1 body) ≡ insertion (h .slot) (byte body 0) (drop 1 body)
+  put-same = ap (λ (k : ℕ). insertion (h .slot) k (drop 1 body)) (accepted-kind (h .slot) (byte body 0) (drop 1 body) taken-accepted)
+
+  pub record-accepted : insertion (h .slot) (byte body 0) (drop 1 body) .number ≡ 0
+  record-accepted = ap (λ (o : Outcome). o .number) (sym put-same) ∙ taken-accepted
 
   pub held-card : take (d .held .size) left ≡ insertion (h .slot) (byte body 0) (drop 1 body) .image
   unfolding outcomeOf holding
-  held-card = held-is g ∙ first _ _ (eq-eqb _ 0 record-accepted)
+  held-card = held-is g ∙ first _ _ (eq-eqb _ 0 taken-accepted) ∙ ap (λ (o : Outcome). o .image) put-same
 
   pub held-slot : d .held .slot ≡ insertion (h .slot) (byte body 0) (drop 1 body) .slot
   unfolding outcomeOf holding
-  held-slot = g .slot
+  held-slot = g .slot ∙ ap (λ (o : Outcome). o .slot) put-same
 
 -- ---- the sentence, for both
 -- a code card put in by `card_reader_insert`, which returned 0

@@ -23,7 +23,7 @@ use Rattle.reader.specs.Rules.{rules}
 use Rattle.calls.specs.Calls.{RawOutcome, keeping, rawInsertion, Returns}
 use Rattle.sitting.specs.declared.Held.{Held}
 use Rattle.sitting.specs.declared.Done.{Done}
-use Rattle.sitting.specs.Sittings.{outcomeOf, holding, Leaves}
+use Rattle.sitting.specs.Sittings.{outcomeOf, holding, takenFor, Leaves}
 use Rattle.vectors.specs.Sessions.{lent, recounted, selectedSlot, image4442, image4428, transfer, success, wrong4442}
 use Rattle.promise.specs.Tries.{wrong, rightNow, eventOf, history, wrongs, left, account, triesLeft, PutIn, runFrom}
 use Rattle.counts.specs.Counts.{triesIn}
@@ -110,7 +110,7 @@ abbrev pub putSat : Done
 putSat = record { number = 0; len = 0; held = record { slot = inserted Sle4442 3 0; size = 264 } }
 
 pub record-put4442 : Leaves (outcomeOf Mark.Insert (30 ∷ image4442 0x07) removed [] leastRoom) putSat [] (image4442 0x07) [] []
-unfolding rules outcomeOf holding image4442
+unfolding rules outcomeOf holding takenFor image4442
 record-put4442 = record { number = refl; len = refl; slot = refl; size = refl; image = refl; buffer = refl }
 
 pub thief-sat : {h : Held} {image : List ℕ} → Sat (putSat .held) (image4442 0x07) (lent thief4442) h image → triesIn (facts Sle4442) (take (h .size) image) ≡ 0

@@ -7,7 +7,7 @@ ghost use mathlib.Core.Path.{_≡_};
 ghost use Prim.Native.Nat.{_+_, _≤_, _<_};
 ghost use lib.ListN.{length, take, drop};
 ghost use Rattle.words.specs.Bytes.{over};
-ghost use Rattle.words.specs.Bounds.{addresses};
+ghost use Rattle.words.specs.Bounds.{largest};
 ghost use Rattle.reads.specs.Reads.{bytesRead, counterRead};
 ghost use Rattle.reads.specs.Inner.{blankOne, blanked};
 
@@ -36,7 +36,7 @@ fn blank_one(at: usize, end: usize, k: usize, out: &mut [u8])
 
 // The n image bytes from `code` on read 00h in it.
 fn blank(at: usize, end: usize, code: usize, n: usize, out: &mut [u8])
-    requires { ⌜ (end ≤ at + length (now out)) × (code + n < addresses) ⌝ }
+    requires { ⌜ (end ≤ at + length (now out)) × (code + n ≤ largest) ⌝ }
     ensures { λ _. ⌜ now (out .exit) ≡ blanked at end code n (now (out .entry)) ⌝ }
 {
     let mut i = 0;
@@ -56,7 +56,7 @@ pub fn read_shown(
     open: bool,
     out: &mut [u8],
 )
-    requires { ⌜ (at + n ≤ length (now image)) × (n ≤ length (now out)) × (code + digits < addresses) ⌝ }
+    requires { ⌜ (at + n ≤ length (now image)) × (n ≤ length (now out)) × (code + digits ≤ largest) ⌝ }
     ensures { λ _. ⌜ now (out .exit) ≡ over (bytesRead code digits «open» (now (image .entry)) at n) (now (out .entry)) ⌝ }
 {
     read(image, at, n, out);

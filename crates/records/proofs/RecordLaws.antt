@@ -6,7 +6,7 @@ use native.Mathlib.Omega.{arith}
 use lib.ListN.{length, length-append, List·getD-append}
 use lib.Dec.{ltb, leb}
 use borrow.Author.Tests.{ltb-true, ltb-false, leb-true, le-ltb, lt-leb}
-use Rattle.words.specs.Bounds.{largest, longestRecord}
+use Rattle.words.specs.Bounds.{largestHeld, longestRecord}
 use Rattle.words.proofs.Choices.{first, rest, either}
 use Rattle.records.specs.declared.Mark.{Mark}
 use Rattle.records.specs.declared.Marked.{Marked}
@@ -58,7 +58,7 @@ Fewer l at Cut = length l - at < longestRecord
 Fewer l at Bad = Unit {0}
 Fewer l at End = length l ≤ at
 
-most-bytes : (mark : Mark) → most mark ≤ 1 + largest
+most-bytes : (mark : Mark) → most mark ≤ 1 + largestHeld
 most-bytes Mark.Insert = omega arith
 most-bytes Mark.Remove = omega arith
 most-bytes Mark.Message = omega arith

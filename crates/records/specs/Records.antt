@@ -5,7 +5,7 @@ use lib.ListN.{length}
 use lib.Dec.{ltb, leb}
 use Rattle.words.specs.Choice.{_⇒_⁏_, _is_}
 use Rattle.words.specs.Bytes.{byte}
-use Rattle.words.specs.Bounds.{largest}
+use Rattle.words.specs.Bounds.{largestHeld}
 use Rattle.records.specs.declared.Mark.{Mark}
 use Rattle.records.specs.declared.Mark.the-variants.{Insert, Remove, Message}
 use Rattle.records.specs.declared.Marked.{Marked}
@@ -22,11 +22,12 @@ markOf word =
     ⁏ word is 0x4F4D ⇒ Is Message
     ⁏ Other
 
--- "a body over 32,769 bytes or a non-empty remove body": the longest body that is none of these, a kind byte and the largest card's image
+-- "a body over 32,769 bytes or a non-empty remove body": the longest body that is none of these, a kind byte and the image of the
+-- largest card that a record holds
 abbrev pub most : Mark → ℕ
-most Insert = 1 + largest
+most Insert = 1 + largestHeld
 most Remove = 0
-most Message = 1 + largest
+most Message = 1 + largestHeld
 
 -- the header at a place: the mark's two bytes, and the length of the body
 abbrev pub wordAt : List ℕ → ℕ → ℕ

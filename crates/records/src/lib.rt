@@ -1,7 +1,7 @@
 // The records of a session: a two-byte mark, a length (2 bytes, low first), a body. Each is read from a slice at a place, without a copy.
 // No public function has a `requires`: any bytes and any place have their one reading.
 
-use words::LARGEST;
+use words::LARGEST_HELD;
 use words::wide;
 ghost use mathlib.Core.Path.{_≡_};
 ghost use Rattle.records.specs.Records.{markOf, most, recordAt};
@@ -57,9 +57,9 @@ impl Mark {
         ensures { λ r. ⌜ r ≡ most self ⌝ }
     {
         match self {
-            Mark::Insert => 1 + LARGEST,
+            Mark::Insert => 1 + LARGEST_HELD,
             Mark::Remove => 0,
-            Mark::Message => 1 + LARGEST,
+            Mark::Message => 1 + LARGEST_HELD,
         }
     }
 }

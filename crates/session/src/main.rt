@@ -6,7 +6,7 @@ use input::bring;
 use libc::STDERR_FILENO;
 use libc::STDOUT_FILENO;
 use records::Record;
-use words::LARGEST;
+use words::LARGEST_HELD;
 use words::LINE;
 use words::RECORD;
 use words::ROOM;
@@ -36,7 +36,7 @@ fn hand(out: &[u8], n: usize) -> bool
 // was not taken, nor at the most records.
 fn session(
     input: &mut [u8],
-    image: &mut [u8; LARGEST],
+    image: &mut [u8; LARGEST_HELD],
     answer: &mut [u8; ROOM],
     out: &mut [u8; LINE],
 ) -> bool
@@ -76,7 +76,7 @@ fn session(
 // The input buffer holds the longest whole record.
 fn main() {
     let mut input = [0u8; RECORD];
-    let mut image = [0u8; LARGEST];
+    let mut image = [0u8; LARGEST_HELD];
     let mut answer = [0u8; ROOM];
     let mut out = [0u8; LINE];
     session(&mut input, &mut image, &mut answer, &mut out);

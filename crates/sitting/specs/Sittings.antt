@@ -1,9 +1,10 @@
 -- What a record of a session does: the number it prints, the answer, and the slot and the image that are held afterwards.
 use mathlib.Core.Path.{_≡_}
 use Prim.Native.Nat.{ℕ}
+use mathlib.Core.Bool.{Bool}
 use mathlib.Core.List.{List, []}
 use lib.ListN.{length, drop}
-use Rattle.words.specs.Choice.{_⇒_⁏_, _is_}
+use Rattle.words.specs.Choice.{_⇒_⁏_, _or_, _is_}
 use Rattle.words.specs.Bytes.{byte, over}
 use Rattle.slot.specs.declared.Slot.{Slot}
 use Rattle.slot.specs.Slots.{removed}
@@ -16,8 +17,15 @@ use Rattle.sitting.specs.declared.Done.{Done}
 unfoldable pub holding : Outcome → List ℕ → Outcome
 holding o image = record { number = o .number; answer = o .answer; slot = o .slot; image = o .number is 0 ⇒ o .image ⁏ image }
 
+-- 02: "the program takes kinds 10 and 11 as unknown": for 0, which is no kind
+abbrev pub unknownHere : ℕ → Bool
+unknownHere kind = kind is 10 or kind is 11
+
+unfoldable pub takenFor : ℕ → ℕ
+takenFor kind = unknownHere kind ⇒ 0 ⁏ kind
+
 abbrev pub inserting : Slot → ℕ → List ℕ → List ℕ → Outcome
-inserting s kind card image = holding (insertion s kind card) image
+inserting s kind card image = holding (insertion s (takenFor kind) card) image
 
 -- "Removal always gives the empty sound slot and is never turned down": no image is held
 abbrev pub takenOut : Outcome

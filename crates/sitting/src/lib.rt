@@ -3,17 +3,17 @@
 
 use records::Mark;
 use slot::Slot;
-use words::LARGEST;
+use words::LARGEST_HELD;
 use words::ROOM;
 use words::least;
 ghost use mathlib.Core.Path.{_≡_};
 ghost use mathlib.Core.List.{List};
 ghost use Prim.Native.Nat.{ℕ, _≤_};
 ghost use lib.ListN.{length, take};
-ghost use Rattle.words.specs.Bounds.{largest, leastRoom};
+ghost use Rattle.words.specs.Bounds.{largestHeld, leastRoom};
 ghost use Rattle.slot.specs.Slots.{removed};
 ghost use Rattle.frame.specs.Exchange.{exchange};
-ghost use Rattle.sitting.specs.Sittings.{inserting, outcomeOf, Leaves};
+ghost use Rattle.sitting.specs.Sittings.{takenFor, inserting, outcomeOf, Leaves};
 
 // What is held from record to record: the slot record, and how many bytes of the lent image are the card's.
 pub struct Held {
@@ -36,12 +36,25 @@ pub fn start() -> Held
     Held { slot, size: 0 }
 }
 
+// The kind that a kind byte is taken for: kinds 10 and 11 are unknown here, as 0 is. No record holds the image of one.
+fn taken_for(kind: u8) -> u8
+    ensures { λ r. ⌜ r ≡ takenFor kind ⌝ }
+{
+    if kind == 10 {
+        return 0;
+    }
+    if kind == 11 {
+        return 0;
+    }
+    kind
+}
+
 // A card of a kind is put in. Only where it is accepted are its bytes laid into the lent image.
 fn put_in(kind: u8, card: &[u8], slot: Slot, size: usize, image: &mut [u8]) -> Done
-    requires { ⌜ (length (now image) ≡ largest) × (size ≤ largest) ⌝ }
+    requires { ⌜ (length (now image) ≡ largestHeld) × (size ≤ largestHeld) ⌝ }
     ensures { λ r. ⌜ ((was : List ℕ) → Leaves (inserting slot kind (now (card .entry)) (take size (now (image .entry)))) r (now (image .entry)) (now (image .exit)) was was) ⌝ }
 {
-    let reply = reader::insert(slot, kind, card);
+    let reply = reader::insert(slot, taken_for(kind), card);
     let verdict = reply.verdict;
     let next = reply.slot;
     let number = verdict.number();
@@ -65,7 +78,7 @@ fn put_in(kind: u8, card: &[u8], slot: Slot, size: usize, image: &mut [u8]) -> D
 
 // An insert's body is a kind byte and an image; an empty one counts as one of unknown kind, as 0 is.
 fn insert(body: &[u8], slot: Slot, size: usize, image: &mut [u8]) -> Done
-    requires { ⌜ (length (now image) ≡ largest) × (size ≤ largest) ⌝ }
+    requires { ⌜ (length (now image) ≡ largestHeld) × (size ≤ largestHeld) ⌝ }
     ensures { λ r. ⌜
         ((was : List ℕ) → Leaves (outcomeOf Mark.Insert (now (body .entry)) slot (take size (now (image .entry))) leastRoom) r (now (image .entry)) (now (image .exit)) was was) ⌝ }
 {
@@ -111,14 +124,14 @@ pub fn perform(
     mark: Mark,
     body: &[u8],
     held: Held,
-    image: &mut [u8; LARGEST],
+    image: &mut [u8; LARGEST_HELD],
     answer: &mut [u8; ROOM],
 ) -> Done
     ensures { λ r. ⌜ Leaves (outcomeOf mark (now (body .entry)) (held .slot) (take (held .size) (now (image .entry))) leastRoom) r (now (image .entry))
         (now (image .exit)) (now (answer .entry)) (now (answer .exit)) ⌝ }
 {
     let slot = held.slot;
-    let size = least(held.size, LARGEST);
+    let size = least(held.size, LARGEST_HELD);
     match mark {
         Mark::Insert => insert(body, slot, size, image),
         Mark::Remove => remove(slot),

@@ -40,7 +40,7 @@ ordered-presents Other at n v e = absurd (false≢true e)
 
 module _ (f : Facts) (s s′ : Slot) (d : List ℕ) (type : s′ .selected ≡ s .selected) where
   -- what it passed it passes again
-  passed-again : Passed f s d Present → Passed f s′ d Present
+  passed-again : {at : ℕ} → Passed f s d Present at → Passed f s′ d Present at
   passed-again q = record {
     five = q .five;
     class = q .class;
@@ -50,7 +50,7 @@ module _ (f : Facts) (s s′ : Slot) (d : List ℕ) (type : s′ .selected ≡ s
     had = q .had;
     long = q .long;
     measured = q .measured;
-    placed = q .placed;
+    ranged = q .ranged;
     valued = q .valued;
     allowed = sym (and-fails _ refl);
   }
@@ -60,4 +60,4 @@ module _ (f : Facts) (s s′ : Slot) (d : List ℕ) (type : s′ .selected ≡ s
     where
       go : {o : Order} → Decided f s d o → presents o ≡ true → order f s′ d ≡ Order.Present
       go (refused status) h = absurd (false≢true h)
-      go (through i q) h = passed-order (passed-again (subst⁻¹ (Passed f s d) (sym (ordered-presents i _ _ _ h)) q))
+      go (through i at q) h = passed-order (passed-again (subst⁻¹ (λ (j : Ins). Passed f s d j at) (sym (ordered-presents i _ _ _ h)) q))

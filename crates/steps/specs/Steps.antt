@@ -6,9 +6,11 @@ use lib.ListN.{length, drop}
 use lib.Dec.{ltb, leb}
 use Rattle.words.specs.Choice.{_⇒_⁏_, _and_, _or_, _is_, _isnt_}
 use Rattle.words.specs.Bytes.{byte}
+use Rattle.words.specs.Bounds.{addresses}
 use Rattle.chips.specs.declared.Facts.{Facts}
 use Rattle.slot.specs.declared.Slot.{Slot}
 use Rattle.steps.specs.declared.Status.{Status}
+use Rattle.steps.specs.declared.Ranged.{Ranged}
 use Rattle.steps.specs.declared.Order.{Order}
 
 -- the status words that refuse a command
@@ -48,14 +50,45 @@ insOf b =
     ⁏ Other
 
 -- The parts of the pseudo-APDU: P1P2 (P1 high), P3, and the data after them.
-abbrev pub place : List ℕ → ℕ
-place d = 256 * byte d 2 + byte d 3
+abbrev pub p1p2 : List ℕ → ℕ
+p1p2 d = 256 * byte d 2 + byte d 3
 
 abbrev pub p3 : List ℕ → ℕ
 p3 d = byte d 4
 
 abbrev pub body : List ℕ → List ℕ
 body d = drop 5 d
+
+-- 02: "Kind 11 has 17 address bits": more memory than P1P2 can name
+abbrev pub seventeen : Facts → Bool
+seventeen f = ltb addresses (f .memory)
+
+-- 02: "among I2C cards step 5 admits B1 and D1 for kind 11 only, and steps 6 and 7 treat them there as B0 and D0": what INS means on a card, before
+-- the steps
+abbrev pub meant : Facts → Ins → Ins
+meant f Select = Select
+meant f Page = Page
+meant f Read = Read
+meant f Counter = seventeen f ⇒ Read ⁏ Counter
+meant f Bits = Bits
+meant f Write = Write
+meant f Protect = seventeen f ⇒ Write ⁏ Protect
+meant f Present = Present
+meant f Change = Change
+meant f Other = Other
+
+-- 02: "B0 and D0 carry the top bit 0, B1 and D1 on type 02h carry it 1"
+abbrev pub top : Facts → Ins → ℕ
+top f Select = 0
+top f Page = 0
+top f Read = 0
+top f Counter = seventeen f ⇒ addresses ⁏ 0
+top f Bits = 0
+top f Write = 0
+top f Protect = seventeen f ⇒ addresses ⁏ 0
+top f Present = 0
+top f Change = 0
+top f Other = 0
 
 -- step 3: "INS none of A4 01 B0 B1 B2 D0 D1 20 D2"
 abbrev pub known : Ins → Bool
@@ -139,6 +172,14 @@ placeFits f Present at n = at is 0
 placeFits f Change at n = at is 1
 placeFits f Other at n = false
 
+-- 02: "The range test now takes and answers a 17-bit address"
+unfoldable pub rangeTest : Facts → Ins → ℕ → ℕ → Ranged
+rangeTest f i at n = placeFits f i at n ⇒ Ranged.At at ⁏ Ranged.Outside
+
+-- from INS, P1P2 and P3 to the address, or the refusal
+abbrev pub placeOf : Facts → Ins → ℕ → ℕ → Ranged
+placeOf f i at n = rangeTest f (meant f i) (top f i + at) n
+
 -- step 8: "A4 with a type not the card's; 01 with a code outside 03h..07h"
 abbrev pub valueFits : Facts → Ins → ℕ → Bool
 valueFits f Select v = v is f .selects
@@ -178,25 +219,30 @@ ordered Present at n v = Order.Present
 ordered Change at n v = Order.Change
 ordered Other at n v = Order.Refuse Status.Instruction
 
--- steps 3 to 9, INS being i: n is the data length, at is P1P2, p is P3 and v the byte after it
-unfoldable pub steps : Facts → Slot → ℕ → ℕ → ℕ → ℕ → Ins → Order
-steps f s n at p v i =
+-- steps 7 to 9: outside is 6B 00; at an address the rest decide
+unfoldable pub reaching : Facts → Slot → ℕ → ℕ → Ins → Ranged → Order
+reaching f s p v i Ranged.Outside = Order.Refuse Status.Place
+reaching f s p v i (Ranged.At at) =
+    not (valueFits f i v) ⇒ Order.Refuse Status.Value
+    ⁏ needsOpen i and f .coded and not (s .«open») ⇒ Order.Refuse Status.Denied
+    ⁏ ordered i at p v
+
+-- steps 3 to 9, INS meaning i: n is the data length, p is P3, v the byte after it, and the range test has made `ranged` of INS, P1P2 and P3
+unfoldable pub steps : Facts → Slot → ℕ → ℕ → ℕ → Ins → Ranged → Order
+steps f s n p v i ranged =
     not (known i) ⇒ Order.Refuse Status.Instruction
     ⁏ needsType i and s .selected is 0 ⇒ Order.Refuse Status.Unselected
     ⁏ not (has f i) ⇒ Order.Refuse Status.Instruction
     ⁏ n isnt (5 + following i p) ⇒ Order.Refuse Status.Length
     ⁏ not (lengthFits f i p) ⇒ Order.Refuse Status.Length
-    ⁏ not (placeFits f i at p) ⇒ Order.Refuse Status.Place
-    ⁏ not (valueFits f i v) ⇒ Order.Refuse Status.Value
-    ⁏ needsOpen i and f .coded and not (s .«open») ⇒ Order.Refuse Status.Denied
-    ⁏ ordered i at p v
+    ⁏ reaching f s p v i ranged
 
 -- all nine: "n below 5: 67 00", "first byte not FFh: 6E 00", and the rest
 unfoldable pub order : Facts → Slot → List ℕ → Order
 order f s d =
     ltb (length d) 5 ⇒ Order.Refuse Status.Length
     ⁏ byte d 0 isnt 0xFF ⇒ Order.Refuse Status.Class
-    ⁏ steps f s (length d) (place d) (p3 d) (byte d 5) (insOf (byte d 1))
+    ⁏ let i = insOf (byte d 1) in steps f s (length d) (p3 d) (byte d 5) (meant f i) (placeOf f i (p1p2 d) (p3 d))
 
 -- "steps 1 to 10 let its command 20 through"; 02: "step 10 goes"
 abbrev pub presents : Order → Bool

@@ -1,11 +1,11 @@
-// The nine steps: what they end in, and the steps of the commands that only look: A4, 01, B0, B1, B2. Inner functions: they ask that P1P2
-// and P3 come from bytes. The rules are written in specs/Steps.antt, one table for each step, and its chain `steps` in the paper's order.
+// The nine steps: what they end in, and the steps of the commands that only look: A4, 01, B0, B1, B2. Inner functions: they ask that P3
+// comes from a byte. The rules are written in specs/Steps.antt, one table for each step, and its chain `steps` in the paper's order. What step 7
+// makes of INS, P1P2 and P3 is handed to them (crate places): no handler is given P1P2 itself.
 
 use chips::Chip;
 use slot::Slot;
 ghost use mathlib.Core.Path.{_≡_};
 ghost use Prim.Native.Nat.{ℕ, _<_};
-ghost use Rattle.words.specs.Bounds.{addresses};
 ghost use Rattle.chips.specs.Kinds.{facts};
 ghost use Rattle.steps.specs.Steps.{Select, Page, Read, Counter, Bits, lengthFits, steps};
 
@@ -18,6 +18,12 @@ pub enum Status {
     Place,
     Value,
     Denied,
+}
+
+// What step 7 makes of INS, P1P2 and P3: the address, 17 bits wide, or 6B 00.
+pub enum Ranged {
+    At(usize),
+    Outside,
 }
 
 // What the nine steps end in.
@@ -38,9 +44,9 @@ pub enum Order {
 }
 
 // A4.
-pub fn select_order(chip: Chip, slot: Slot, n: usize, at: usize, p: usize, v: u8) -> Order
+pub fn select_order(chip: Chip, slot: Slot, n: usize, p: usize, v: u8, ranged: Ranged) -> Order
     requires { ⌜ p < 256 ⌝ }
-    ensures { λ r. ⌜ r ≡ steps (facts chip) slot n at p v Select ⌝ }
+    ensures { λ r. ⌜ r ≡ steps (facts chip) slot n p v Select ranged ⌝ }
 {
     if n != 5 + p {
         return Order::Refuse(Status::Length);
@@ -48,9 +54,9 @@ pub fn select_order(chip: Chip, slot: Slot, n: usize, at: usize, p: usize, v: u8
     if p != 1 {
         return Order::Refuse(Status::Length);
     }
-    if at != 0 {
+    let Ranged::At(_) = ranged else {
         return Order::Refuse(Status::Place);
-    }
+    };
     if v != chip.facts().selects {
         return Order::Refuse(Status::Value);
     }
@@ -58,9 +64,9 @@ pub fn select_order(chip: Chip, slot: Slot, n: usize, at: usize, p: usize, v: u8
 }
 
 // 01.
-pub fn page_order(chip: Chip, slot: Slot, n: usize, at: usize, p: usize, v: u8) -> Order
+pub fn page_order(chip: Chip, slot: Slot, n: usize, p: usize, v: u8, ranged: Ranged) -> Order
     requires { ⌜ p < 256 ⌝ }
-    ensures { λ r. ⌜ r ≡ steps (facts chip) slot n at p v Page ⌝ }
+    ensures { λ r. ⌜ r ≡ steps (facts chip) slot n p v Page ranged ⌝ }
 {
     if slot.selected == 0 {
         return Order::Refuse(Status::Unselected);
@@ -74,9 +80,9 @@ pub fn page_order(chip: Chip, slot: Slot, n: usize, at: usize, p: usize, v: u8) 
     if p != 1 {
         return Order::Refuse(Status::Length);
     }
-    if at != 0 {
+    let Ranged::At(_) = ranged else {
         return Order::Refuse(Status::Place);
-    }
+    };
     if v < 0x03 {
         return Order::Refuse(Status::Value);
     }
@@ -87,9 +93,8 @@ pub fn page_order(chip: Chip, slot: Slot, n: usize, at: usize, p: usize, v: u8) 
 }
 
 // B0.
-pub fn read_order(chip: Chip, slot: Slot, n: usize, at: usize, p: usize) -> Order
-    requires { ⌜ (at < addresses) × (p < 256) ⌝ }
-    ensures { λ r. ⌜ ((v : ℕ) → r ≡ steps (facts chip) slot n at p v Read) ⌝ }
+pub fn read_order(chip: Chip, slot: Slot, n: usize, p: usize, ranged: Ranged) -> Order
+    ensures { λ r. ⌜ ((v : ℕ) → r ≡ steps (facts chip) slot n p v Read ranged) ⌝ }
 {
     if slot.selected == 0 {
         return Order::Refuse(Status::Unselected);
@@ -100,15 +105,15 @@ pub fn read_order(chip: Chip, slot: Slot, n: usize, at: usize, p: usize) -> Orde
     if p < 1 {
         return Order::Refuse(Status::Length);
     }
-    if chip.facts().memory < at + p {
+    let Ranged::At(at) = ranged else {
         return Order::Refuse(Status::Place);
-    }
+    };
     Order::Read { at, count: p }
 }
 
 // B1.
-pub fn counter_order(chip: Chip, slot: Slot, n: usize, at: usize, p: usize) -> Order
-    ensures { λ r. ⌜ ((v : ℕ) → r ≡ steps (facts chip) slot n at p v Counter) ⌝ }
+pub fn counter_order(chip: Chip, slot: Slot, n: usize, p: usize, ranged: Ranged) -> Order
+    ensures { λ r. ⌜ ((v : ℕ) → r ≡ steps (facts chip) slot n p v Counter ranged) ⌝ }
 {
     if slot.selected == 0 {
         return Order::Refuse(Status::Unselected);
@@ -122,9 +127,9 @@ pub fn counter_order(chip: Chip, slot: Slot, n: usize, at: usize, p: usize) -> O
     if p != chip.facts().digits + 1 {
         return Order::Refuse(Status::Length);
     }
-    if at != 0 {
+    let Ranged::At(_) = ranged else {
         return Order::Refuse(Status::Place);
-    }
+    };
     Order::Counter(p)
 }
 
@@ -142,9 +147,8 @@ fn bits_length(chip: Chip, p: usize) -> bool
 }
 
 // B2.
-pub fn bits_order(chip: Chip, slot: Slot, n: usize, at: usize, p: usize) -> Order
-    requires { ⌜ (at < addresses) × (p < 256) ⌝ }
-    ensures { λ r. ⌜ ((v : ℕ) → r ≡ steps (facts chip) slot n at p v Bits) ⌝ }
+pub fn bits_order(chip: Chip, slot: Slot, n: usize, p: usize, ranged: Ranged) -> Order
+    ensures { λ r. ⌜ ((v : ℕ) → r ≡ steps (facts chip) slot n p v Bits ranged) ⌝ }
 {
     if slot.selected == 0 {
         return Order::Refuse(Status::Unselected);
@@ -158,8 +162,8 @@ pub fn bits_order(chip: Chip, slot: Slot, n: usize, at: usize, p: usize) -> Orde
     if !bits_length(chip, p) {
         return Order::Refuse(Status::Length);
     }
-    if chip.facts().covered < at + 8 * p {
+    let Ranged::At(at) = ranged else {
         return Order::Refuse(Status::Place);
-    }
+    };
     Order::Bits { at, count: p }
 }

@@ -7,7 +7,7 @@ use pages::store;
 ghost use mathlib.Core.Path.{_≡_};
 ghost use Prim.Native.Nat.{_+_, _/_, _≤_, _<_};
 ghost use lib.ListN.{length};
-ghost use Rattle.words.specs.Bounds.{addresses};
+ghost use Rattle.words.specs.Bounds.{largest};
 ghost use Rattle.stores.specs.Stores.{storing, endsEqual};
 
 // The data stored from `at` on but where a byte is protected. The search gives the next protected place: the run before it is stored whole,
@@ -19,7 +19,7 @@ pub fn store_unprotected(
     at: usize,
     data: &[u8],
 ) -> bool
-    requires { ⌜ (at + length (now «data») ≤ bits) × (bits + (covered + 7) / 8 ≤ length (now image)) × (bits < addresses) ⌝ }
+    requires { ⌜ (at + length (now «data») ≤ bits) × (bits + (covered + 7) / 8 ≤ length (now image)) × (bits ≤ largest) ⌝ }
     ensures stored { λ _. ⌜ now (image .exit) ≡ storing bits covered (now (image .entry)) at (now («data» .entry)) ⌝ }
     ensures report { λ r. ⌜ r ≡ endsEqual (now (image .exit)) at (now («data» .entry)) ⌝ }
 {

@@ -1,13 +1,17 @@
 -- Bounds that more than one crate asks, each by its name.
 use Prim.Native.Nat.{ℕ}
 
--- every address that P1P2 can name is below this, and no image is as long
+-- every address that P1P2 can name is below this; it is the top bit of a 17-bit address
 abbrev pub addresses : ℕ
 addresses = 65536
 
--- the bytes of the largest card
+-- the bytes of the largest card: every address of a card is below this, and what an I2C card has not would stand here at most
 abbrev pub largest : ℕ
-largest = 32768
+largest = 131072
+
+-- the bytes of the largest card that a record of a session holds
+abbrev pub largestHeld : ℕ
+largestHeld = 32768
 
 -- "answer buffer under 271 bytes" is turned down
 abbrev pub leastRoom : ℕ
@@ -21,6 +25,6 @@ leastTail = 261
 abbrev pub longestAnswer : ℕ
 longestAnswer = 267
 
--- the longest whole record of a session: a mark, a length, and a kind byte and the largest card's image
+-- the longest whole record of a session: a mark, a length, and a kind byte and the image of the largest card that a record holds
 abbrev pub longestRecord : ℕ
 longestRecord = 32773

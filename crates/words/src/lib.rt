@@ -10,8 +10,11 @@ ghost use Rattle.words.specs.Bytes.{byte, same, fourAt, eightAt, byteOf,
 // The smallest answer buffer that is not turned down.
 pub const ROOM: usize = 271;
 
-// The bytes of the largest card.
-pub const LARGEST: usize = 32768;
+// How many addresses P1P2 can name: the top bit of a 17-bit address.
+pub const ADDRESSES: usize = 65536;
+
+// The bytes of the largest card that a record of a session holds.
+pub const LARGEST_HELD: usize = 32768;
 
 // The bytes of the longest whole record of a session.
 pub const RECORD: usize = 32773;

@@ -1,9 +1,10 @@
 -- Our reader with a part replaced (specs/Wrong) is our reader where the part put in is the rules' own. So a wrong reader that is made this way is
 -- wrong by the part that its definition names, and by nothing else.
-use Prim.Native.Nat.{ℕ, _-_}
-use mathlib.Core.Path.{_≡_, refl, sym, ap, _∙_, subst⁻¹}
+use Prim.Native.Nat.{ℕ, _+_, _-_}
+use mathlib.Core.Path.{_≡_, refl, sym, ap, ap₂, _∙_, subst⁻¹}
 use mathlib.Core.Bool.{Bool, true, false, not, true≢false}
 use mathlib.Core.List.{List, [], _∷_}
+use native.Mathlib.Nat.{zero-add}
 use lib.ListN.{length}
 use borrow.Author.Tests.{eqb-true, not-true, not-false}
 use Rattle.words.specs.Choice.{_⇒_⁏_, _and_, _or_, _is_, _isnt_}
@@ -22,8 +23,8 @@ use Rattle.counts.specs.Counts.{putIn}
 use Rattle.card.specs.Images.{isCard}
 use Rattle.steps.specs.declared.Status.{Status}
 use Rattle.steps.specs.declared.Order.{Order}
-use Rattle.steps.specs.Steps.{Ins, insOf, place, p3, body, ordered, order}
-use Rattle.steps.proofs.Decisions.{Decided, refused, through, decided}
+use Rattle.steps.specs.Steps.{Ins, insOf, p1p2, p3, body, meant, top, ordered, order}
+use Rattle.steps.proofs.Decisions.{Decided, refused, through, decided, placed}
 use Rattle.stores.specs.Stores.{storing}
 use Rattle.sound.specs.Sound.{imageIsCard, sound}
 use Rattle.faults.specs.declared.Fault.{Fault}
@@ -198,36 +199,39 @@ refusal-kept Status.Value e = no-test e refl
 refusal-kept Status.Denied e = no-test e refl
 
 -- a D0 that is let through is a write from its address on
-let-writes : (f : Facts) (s : Slot) (d : List ℕ) → byte d 1 is 0xD0 and lets (order f s d) ≡ true → order f s d ≡ Order.Write (place d)
+let-writes : (f : Facts) (s : Slot) (d : List ℕ) → byte d 1 is 0xD0 and lets (order f s d) ≡ true → order f s d ≡ Order.Write (p1p2 d)
 unfolding insOf _⇒_⁏_
 let-writes f s d h = go (decided f s d) (and-true _ _ h .1)
   where
-    go : {o : Order} → Decided f s d o → lets o ≡ true → o ≡ Order.Write (place d)
+    go : {o : Order} → Decided f s d o → lets o ≡ true → o ≡ Order.Write (p1p2 d)
     go (refused status) e = refusal-kept status e
-    go (through i p) e = ap (λ (x : Ins). ordered x (place d) (p3 d) (byte d 5)) (sym (p .ins) ∙ ap insOf (eqb-true (byte d 1) 0xD0 (and-true _ _ h .0)))
+    go (through i at p) e =
+        let b : insOf (byte d 1) ≡ insOf 0xD0 = ap insOf (eqb-true (byte d 1) 0xD0 (and-true _ _ h .0)) in
+        let at-p1p2 : at ≡ p1p2 d = sym (placed p .0) ∙ ap (λ (x : Ins). top f x + p1p2 d) b ∙ zero-add (p1p2 d) in
+        ap₂ (λ (x : Ins) (n : ℕ). ordered x n (p3 d) (byte d 5)) (sym (p .ins) ∙ ap (meant f) b) at-p1p2
 
 -- so it does what the rules say of one
 let-does : (f : Facts) (s : Slot) (i d : List ℕ) → byte d 1 is 0xD0 and lets (order f s d) ≡ true
-    → commanded f s i d ≡ performed f s i (body d) (Order.Write (place d))
+    → commanded f s i d ≡ performed f s i (body d) (Order.Write (p1p2 d))
 unfolding commanded
 let-does f s i d h = ap (performed f s i (body d)) (let-writes f s d h)
 
 pub storing-ours : Ours (storingBy (λ f i at b. storing (f .bits) (f .covered) i at b))
 unfolding storingBy doing performed saidBy imageBy slotBy written
 storing-ours = commanding-ours _ (λ f s i d.
-    let stored : List ℕ = storing (f .bits) (f .covered) i (place d) (body d) in
+    let stored : List ℕ = storing (f .bits) (f .covered) i (p1p2 d) (body d) in
     either (λ (x : Deed). x ≡ commanded f s i d) _
-    (λ h. subst⁻¹ (λ (e : Deed). (f .page isnt 0 ⇒ e ⁏ tells (writtenWord f stored (place d) (body d)) (leaves stored e)) ≡ e) (let-does f s i d h)
-    (either (λ (x : Deed). x ≡ performed f s i (body d) (Order.Write (place d))) _
+    (λ h. subst⁻¹ (λ (e : Deed). (f .page isnt 0 ⇒ e ⁏ tells (writtenWord f stored (p1p2 d) (body d)) (leaves stored e)) ≡ e) (let-does f s i d h)
+    (either (λ (x : Deed). x ≡ performed f s i (body d) (Order.Write (p1p2 d))) _
     (λ _. refl)
-    (λ z. ap (λ (l : List ℕ). record { said = writtenWord f l (place d) (body d); slot = s; image = l }) (sym (rest _ _ z)))))
+    (λ z. ap (λ (l : List ℕ). record { said = writtenWord f l (p1p2 d) (body d); slot = s; image = l }) (sym (rest _ _ z)))))
     (λ _. refl))
 
 pub reporting-ours : Ours (reportingBy (λ f i after at b. reported f after at b))
 unfolding reportingBy doing performed saidBy imageBy slotBy writtenWord
 reporting-ours = commanding-ours _ (λ f s i d.
     either (λ (x : Deed). x ≡ commanded f s i d) _
-    (λ h. subst⁻¹ (λ (e : Deed). tells (reported f (e .image) (place d) (body d) ⇒ done ⁏ unequal) e ≡ e) (let-does f s i d h) refl)
+    (λ h. subst⁻¹ (λ (e : Deed). tells (reported f (e .image) (p1p2 d) (body d) ⇒ done ⁏ unequal) e ≡ e) (let-does f s i d h) refl)
     (λ _. refl))
 
 pub at-unequal-ours : Ours (atUnequal (λ f s i d e. e))

@@ -1,5 +1,5 @@
 -- Wrong readers: what one is, and our reader with one part put wrong. A wrong reader is a definition as short as its fault is in words.
-use Prim.Native.Nat.{ℕ, _-_}
+use Prim.Native.Nat.{ℕ, _+_, _-_}
 use mathlib.Core.Bool.{Bool, true, false, not}
 use mathlib.Core.List.{List, [], _∷_, _++_}
 use lib.ListN.{length, take, drop, set}
@@ -17,7 +17,7 @@ use Rattle.slot.specs.declared.Slot.{Slot}
 use Rattle.counts.specs.Counts.{putIn}
 use Rattle.steps.specs.declared.Status.{Status}
 use Rattle.steps.specs.declared.Order.{Order}
-use Rattle.steps.specs.Steps.{wordOf, insOf, place, p3, body, ordered, order}
+use Rattle.steps.specs.Steps.{Ins, wordOf, insOf, p1p2, p3, body, meant, top, ordered, steps, order}
 use Rattle.sound.specs.Sound.{sound}
 use Rattle.faults.specs.declared.Fault.{Fault}
 use Rattle.faults.specs.Faults.{Request, Transfer, typeByte, apdu, requestOf, ready, faultOf}
@@ -203,6 +203,13 @@ refuses status o = same (refusal o) (wordOf status)
 abbrev pub lets : Order → Bool
 lets o = same (refusal o) []
 
+-- what INS of a pseudo-APDU means on a card, and the address, with the top bit that INS carries
+abbrev pub ins : Facts → List ℕ → Ins
+ins f d = meant f (insOf (byte d 1))
+
+abbrev pub address : Facts → List ℕ → ℕ
+address f d = top f (insOf (byte d 1)) + p1p2 d
+
 -- A test on a command: of the card, the slot, the image and the pseudo-APDU.
 abbrev pub Test : Type 0
 Test = Facts → Slot → List ℕ → List ℕ → Bool
@@ -218,7 +225,7 @@ sooner earlier test later = ordering λ f s image d.
 unfoldable pub letting : Status → Test → Reader
 letting status test = ordering λ f s image d.
     let o = order f s d in
-    refuses status o and test f s image d ⇒ ordered (insOf (byte d 1)) (place d) (p3 d) (byte d 5)
+    refuses status o and test f s image d ⇒ ordered (ins f d) (address f d) (p3 d) (byte d 5)
     ⁏ o
 
 -- what the rules let through is refused where the test holds

@@ -13,7 +13,7 @@ use Rattle.chips.specs.declared.Facts.{Facts}
 use Rattle.reads.specs.Reads.{bytesRead}
 use Rattle.slot.specs.declared.Slot.{Slot}
 use Rattle.slot.specs.Slots.{paged, powered, selecting, opened, closed}
-use Rattle.steps.specs.Steps.{place, p3, body}
+use Rattle.steps.specs.Steps.{p1p2, p3, body}
 use Rattle.orders.specs.Orders.{Deed, done}
 use Rattle.wrong.specs.Wrong.{recounts, Reader, rowed, placed, tells, stands, leaves, doing, atWrong, atRight, counterOf, counting}
 use Rattle.wrong.specs.WrongReaders.{mirrored}
@@ -47,15 +47,15 @@ pagesNothing = doing 0x01 λ f s image d e. stands s e
 -- ---- B0
 -- shows a 4428's code while it is closed
 abbrev pub showsCode : Reader
-showsCode = doing 0xB0 λ f s image d e. tells (take (p3 d) (drop (place d) image) ++ done) e
+showsCode = doing 0xB0 λ f s image d e. tells (take (p3 d) (drop (p1p2 d) image) ++ done) e
 
 -- blanks a 4428's code while it is open
 abbrev pub hidesCode : Reader
-hidesCode = doing 0xB0 λ f s image d e. tells (bytesRead (f .code) (f .digits) false image (place d) (p3 d) ++ done) e
+hidesCode = doing 0xB0 λ f s image d e. tells (bytesRead (f .code) (f .digits) false image (p1p2 d) (p3 d) ++ done) e
 
 -- blanks a 4428's counter too while it is closed
 abbrev pub hidesCounter : Reader
-hidesCounter = doing 0xB0 λ f s image d e. tells (bytesRead (f .counter) (f .digits + 1) (s .«open») image (place d) (p3 d) ++ done) e
+hidesCounter = doing 0xB0 λ f s image d e. tells (bytesRead (f .counter) (f .digits + 1) (s .«open») image (p1p2 d) (p3 d) ++ done) e
 
 -- reads from address 0 at B0
 abbrev pub readsFromZero : Reader
@@ -104,7 +104,7 @@ bitsFromZero = doing 0xB2 λ f s image d e. tells (packedBytes (f .bits) (f .cov
 
 -- tells the bits of B2 from the protection byte's first on
 abbrev pub bitsFromByte : Reader
-bitsFromByte = doing 0xB2 λ f s image d e. tells (packedBytes (f .bits) (f .covered) image (place d - place d % 8) (p3 d) ++ done) e
+bitsFromByte = doing 0xB2 λ f s image d e. tells (packedBytes (f .bits) (f .covered) image (p1p2 d - p1p2 d % 8) (p3 d) ++ done) e
 
 -- tells 1 for protected at B2
 abbrev pub bitsTurned : Reader
@@ -113,7 +113,7 @@ bitsTurned = doing 0xB2 λ f s image d e. tells (map (λ (b : ℕ). 0xFF - b) (t
 -- ---- D1
 -- protects every byte of D1's range, unequal ones too
 abbrev pub protectsAll : Reader
-protectsAll = doing 0xD1 λ f s image d e. leaves (protectEqual (f .bits) (f .covered) image (place d) (take (p3 d) (drop (place d) image))) e
+protectsAll = doing 0xD1 λ f s image d e. leaves (protectEqual (f .bits) (f .covered) image (p1p2 d) (take (p3 d) (drop (p1p2 d) image))) e
 
 -- protects nothing at D1
 abbrev pub protectsNothing : Reader
@@ -125,7 +125,7 @@ mirroring f image = sets image (f .bits) (map mirrored (take (f .covered / 8) (d
 
 -- clears bit 7 - k mod 8 for byte k at D1
 abbrev pub protectsMirrored : Reader
-protectsMirrored = doing 0xD1 λ f s image d e. leaves (mirroring f (protectEqual (f .bits) (f .covered) (mirroring f image) (place d) (body d))) e
+protectsMirrored = doing 0xD1 λ f s image d e. leaves (mirroring f (protectEqual (f .bits) (f .covered) (mirroring f image) (p1p2 d) (body d))) e
 
 unfoldable pub upToUnequal : List ℕ → List ℕ → List ℕ
 upToUnequal [] ys = []
@@ -134,16 +134,16 @@ upToUnequal (x ∷ xs) (y ∷ ys) = let more = upToUnequal xs ys in x is y ⇒ x
 
 -- stops D1 at the first unequal byte
 abbrev pub protectStops : Reader
-protectStops = doing 0xD1 λ f s image d e. leaves (protectEqual (f .bits) (f .covered) image (place d) (upToUnequal (body d) (drop (place d) image))) e
+protectStops = doing 0xD1 λ f s image d e. leaves (protectEqual (f .bits) (f .covered) image (p1p2 d) (upToUnequal (body d) (drop (p1p2 d) image))) e
 
 -- stores the bytes of D1 too
 abbrev pub protectStores : Reader
-protectStores = doing 0xD1 λ f s image d e. leaves (sets (e .image) (place d) (body d)) e
+protectStores = doing 0xD1 λ f s image d e. leaves (sets (e .image) (p1p2 d) (body d)) e
 
 -- ---- D0 on a code card, and D2
 -- stores one address on at D0
 abbrev pub storesNext : Reader
-storesNext = doing 0xD0 λ f s image d e. f .coded ⇒ leaves (sets image (place d + 1) (body d)) e ⁏ e
+storesNext = doing 0xD0 λ f s image d e. f .coded ⇒ leaves (sets image (p1p2 d + 1) (body d)) e ⁏ e
 
 -- closes the card at D0
 abbrev pub storeCloses : Reader
@@ -167,7 +167,7 @@ changesFirst = doing 0xD2 λ f s image d e. leaves (sets image (f .code) (take 1
 
 -- ---- D0 on I2C
 abbrev pub paging : (Facts → Slot → List ℕ → ℕ → List ℕ → List ℕ) → Reader
-paging write = doing 0xD0 λ f s image d e. f .page is 0 ⇒ e ⁏ leaves (write f s image (place d) (body d)) e
+paging write = doing 0xD0 λ f s image d e. f .page is 0 ⇒ e ⁏ leaves (write f s image (p1p2 d) (body d)) e
 
 -- goes straight on past the chip page at D0
 abbrev pub goesStraight : Reader

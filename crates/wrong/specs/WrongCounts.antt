@@ -13,7 +13,7 @@ use Rattle.chips.specs.declared.Facts.{Facts}
 use Rattle.slot.specs.declared.Slot.{Slot}
 use Rattle.slot.specs.Slots.{occupied, removed, triesAs, protectedAs}
 use Rattle.counts.specs.Counts.{triesIn, countIn, triesOf, protectedOf}
-use Rattle.steps.specs.Steps.{place, p3, body}
+use Rattle.steps.specs.Steps.{p1p2, p3, body}
 use Rattle.sound.specs.Sound.{pageSize, emptySound, idleSound, typeSound, openSound, setSound}
 use Rattle.frame.specs.Exchange.{exchange}
 use Rattle.wrong.specs.Wrong.{Reader, Inserter, Remover, slotting, stands, cardIn, refusing, vetting, upon, doing, atWrong, atRight, counterOf, uponInsert}
@@ -145,7 +145,7 @@ protectingTo count = doing 0xD1 λ f s image d e. stands (protectedAs (count f s
 
 -- counts a byte that is protected twice twice
 abbrev pub countsTwice : Reader
-countsTwice = protectingTo λ f s image d. s .protected + equals image (place d) (body d)
+countsTwice = protectingTo λ f s image d. s .protected + equals image (p1p2 d) (body d)
 
 -- counts every byte of D1's range
 abbrev pub countsRange : Reader
@@ -161,7 +161,7 @@ countsNone = protectingTo λ f s image d. s .protected
 
 -- shows what a D1 protected as the number of protected bytes
 abbrev pub countsAnew : Reader
-countsAnew = protectingTo λ f s image d. equals image (place d) (body d)
+countsAnew = protectingTo λ f s image d. equals image (p1p2 d) (body d)
 
 -- keeps the low byte of the number alone
 abbrev pub countsTo255 : Reader
@@ -185,7 +185,7 @@ changeShowsMore = doing 0xD2 λ f s image d e. stands (triesAs (tries (f .full) 
 
 -- counts the bytes that D0 left different as protected anew
 abbrev pub writeCounts : Reader
-writeCounts = doing 0xD0 λ f s image d e. f .page isnt 0 ⇒ e ⁏ stands (protectedAs (s .protected + p3 d - equals (e .image) (place d) (body d)) (e .slot)) e
+writeCounts = doing 0xD0 λ f s image d e. f .page isnt 0 ⇒ e ⁏ stands (protectedAs (s .protected + p3 d - equals (e .image) (p1p2 d) (body d)) (e .slot)) e
 
 -- takes a try off the screen where a message fails
 abbrev pub failureShowsLess : Reader

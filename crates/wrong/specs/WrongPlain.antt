@@ -14,14 +14,14 @@ use Rattle.chips.specs.Kinds.{facts}
 use Rattle.reads.specs.Reads.{bytesRead}
 use Rattle.slot.specs.Slots.{opened}
 use Rattle.steps.specs.declared.Status.{Status}
-use Rattle.steps.specs.Steps.{place, p3, body, needsOpen}
+use Rattle.steps.specs.Steps.{p1p2, p3, body, needsOpen}
 use Rattle.orders.specs.Orders.{done, commanded}
 use Rattle.frame.specs.declared.Refusal.{Refusal}
 use Rattle.frame.specs.Exchange.{turnedDown, exchange, insertion}
-use Rattle.wrong.specs.Wrong.{recounts, recounting, Reader, Inserter, slotting, imaging, telling, tells, stands, leaves, cardIn}
+use Rattle.wrong.specs.Wrong.{ins, recounts, recounting, Reader, Inserter, slotting, imaging, telling, tells, stands, leaves, cardIn}
 use Rattle.wrong.specs.Wrong.{taking, insertsBy, uponInsert, upon, commanding, letting, barring, doing}
 use Rattle.wrong.specs.WrongDowns.{sizeFits, counterFits, ownBitFits}
-use Rattle.wrong.specs.WrongSteps.{ins, upTo}
+use Rattle.wrong.specs.WrongSteps.{upTo}
 
 -- a card with protection bits and no code
 abbrev pub uncoded : Facts → Bool
@@ -104,43 +104,43 @@ refusesPlain i = barring Status.Instruction λ f s image d. uncoded f and byte d
 -- ---- step 7
 -- keeps D1 on kind 21 in the reach of kind 20
 abbrev pub reachOf4428 : Reader
-reachOf4428 = barring Status.Place λ f s image d. f .kind is 21 and byte d 1 is 0xD1 and ltb 0x3FD (upTo d)
+reachOf4428 = barring Status.Place λ f s image d. f .kind is 21 and byte d 1 is 0xD1 and ltb 0x3FD (upTo f d)
 
 -- does not let D0 cover 3FDh on kind 21
 abbrev pub spares3FD : Reader
-spares3FD = barring Status.Place λ f s image d. f .kind is 21 and byte d 1 is 0xD0 and leb (place d) 0x3FD and ltb 0x3FD (upTo d)
+spares3FD = barring Status.Place λ f s image d. f .kind is 21 and byte d 1 is 0xD0 and leb (p1p2 d) 0x3FD and ltb 0x3FD (upTo f d)
 
 -- writes the four zero bytes of kind 31
 abbrev pub writesZeros : Reader
-writesZeros = letting Status.Place λ f s image d. byte d 1 is 0xD0 and leb (f .zeros) (place d) and leb (upTo d) (f .size)
+writesZeros = letting Status.Place λ f s image d. byte d 1 is 0xD0 and leb (f .zeros) (p1p2 d) and leb (upTo f d) (f .size)
 
 -- protects one byte past the reach of D1 on a card without a code
 abbrev pub protectsPlainPast : Reader
-protectsPlainPast = letting Status.Place λ f s image d. uncoded f and byte d 1 is 0xD1 and upTo d is (f .reach + 1)
+protectsPlainPast = letting Status.Place λ f s image d. uncoded f and byte d 1 is 0xD1 and upTo f d is (f .reach + 1)
 
 -- ---- step 9
 -- asks step 9 of a card without a code
 abbrev pub plainNeedsOpen : Reader
-plainNeedsOpen = barring Status.Denied λ f s image d. uncoded f and needsOpen (ins d)
+plainNeedsOpen = barring Status.Denied λ f s image d. uncoded f and needsOpen (ins f d)
 
 -- ---- B0
 -- blanks 3FEh and 3FFh on kind 21
 abbrev pub blanks3FE : Reader
-blanks3FE = doing 0xB0 λ f s image d e. f .kind is 21 ⇒ tells (bytesRead 0x3FE 2 (s .«open») image (place d) (p3 d) ++ done) e ⁏ e
+blanks3FE = doing 0xB0 λ f s image d e. f .kind is 21 ⇒ tells (bytesRead 0x3FE 2 (s .«open») image (p1p2 d) (p3 d) ++ done) e ⁏ e
 
 -- ---- protected bytes
 -- protects what D0 stores
 abbrev pub writeProtects : Reader
-writeProtects = doing 0xD0 λ f s image d e. recounts (leaves (protectEqual (f .bits) (f .covered) (e .image) (place d) (body d)) e)
+writeProtects = doing 0xD0 λ f s image d e. recounts (leaves (protectEqual (f .bits) (f .covered) (e .image) (p1p2 d) (body d)) e)
 
 -- frees the eight bytes of a protection byte where D1's first byte is another than the stored one
 abbrev pub protectFrees : Reader
 protectFrees = doing 0xD1 λ f s image d e.
-    recounts (leaves (byte d 5 is byte image (place d) ⇒ e .image ⁏ set (e .image) (f .bits + place d / 8) 0xFF) e)
+    recounts (leaves (byte d 5 is byte image (p1p2 d) ⇒ e .image ⁏ set (e .image) (f .bits + p1p2 d / 8) 0xFF) e)
 
 -- protects all eight bytes of a protection byte at D1
 abbrev pub protectsEight : Reader
-protectsEight = doing 0xD1 λ f s image d e. recounts (leaves (set (e .image) (f .bits + place d / 8) 0x00) e)
+protectsEight = doing 0xD1 λ f s image d e. recounts (leaves (set (e .image) (f .bits + p1p2 d / 8) 0x00) e)
 
 -- frees every byte at power on
 abbrev pub powerFrees : Reader

@@ -9,7 +9,7 @@ use Rattle.words.specs.Bytes.{same}
 use Rattle.bits.specs.Bits.{bitOf}
 use Rattle.pages.specs.Pages.{pageWrite}
 use Rattle.slot.specs.Slots.{opened}
-use Rattle.steps.specs.Steps.{place, p3, body}
+use Rattle.steps.specs.Steps.{p1p2, p3, body}
 use Rattle.faults.specs.Faults.{dwLength, apdu}
 use Rattle.orders.specs.Orders.{done, written}
 use Rattle.frame.specs.declared.Refusal.{Refusal}
@@ -36,7 +36,7 @@ chargesFirst = atWrong λ f s image d e. counterOf f image is f .full ⇒ e ⁏ 
 
 -- stores only a write's first byte
 abbrev pub storesFirst : Reader
-storesFirst = doing 0xD0 λ f s image d e. leaves (written f (s .page) image (place d) (take 1 (body d))) e
+storesFirst = doing 0xD0 λ f s image d e. leaves (written f (s .page) image (p1p2 d) (take 1 (body d))) e
 
 -- reports an invented counter in the answer to 20: a full one
 abbrev pub inventsAnswer : Reader
@@ -118,4 +118,4 @@ doesTwiceQuietly s image m room = let o = exchange s image m room in saying (o .
 
 -- lets a page write come back round where the rules say exactly the range: never cuts the data at the reader page
 abbrev pub comesRound : Reader
-comesRound = doing 0xD0 λ f s image d e. f .page is 0 ⇒ e ⁏ leaves (pageWrite (f .memory) (f .page) image (place d) (place d) (body d)) e
+comesRound = doing 0xD0 λ f s image d e. f .page is 0 ⇒ e ⁏ leaves (pageWrite (f .memory) (f .page) image (p1p2 d) (p1p2 d) (body d)) e

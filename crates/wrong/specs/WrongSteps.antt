@@ -11,16 +11,13 @@ use Rattle.chips.specs.declared.Facts.{Facts}
 use Rattle.slot.specs.Slots.{selecting, opened, closed}
 use Rattle.steps.specs.declared.Status.{Status}
 use Rattle.steps.specs.declared.Order.{Order}
-use Rattle.steps.specs.Steps.{Ins, Write, insOf, place, p3, body, known, has, following, lengthFits, placeFits, valueFits, needsOpen, order}
+use Rattle.steps.specs.Steps.{Write, p1p2, p3, body, known, has, following, lengthFits, placeFits, valueFits, needsOpen, order}
 use Rattle.orders.specs.Orders.{done, commanded}
-use Rattle.wrong.specs.Wrong.{Reader, Test, tells, stands, leaves, commanding, ordering, refuses, lets, sooner, letting, barring, counterOf, counting}
+use Rattle.wrong.specs.Wrong.{Reader, Test, ins, address, tells, stands, leaves, commanding, ordering, refuses, lets, sooner, letting, barring, counterOf, counting}
 
--- INS of a pseudo-APDU; its address and P3 together
-abbrev pub ins : List ℕ → Ins
-ins d = insOf (byte d 1)
-
-abbrev pub upTo : List ℕ → ℕ
-upTo d = place d + p3 d
+-- the address and P3 together
+abbrev pub upTo : Facts → List ℕ → ℕ
+upTo f d = address f d + p3 d
 
 -- ---- a step in another place. No command is under 8 and 9 both: their order cannot be seen.
 -- takes step 2 before 1
@@ -29,7 +26,7 @@ classFirst = sooner Status.Length (λ f s image d. byte d 0 isnt 0xFF) Status.Cl
 
 -- takes step 3 before 2
 abbrev pub insFirst : Reader
-insFirst = sooner Status.Class (λ f s image d. not (known (ins d))) Status.Instruction
+insFirst = sooner Status.Class (λ f s image d. not (known (ins f d))) Status.Instruction
 
 -- takes step 4 before 3
 abbrev pub typeFirst : Reader
@@ -37,26 +34,26 @@ typeFirst = sooner Status.Instruction (λ f s image d. s .selected is 0) Status.
 
 -- takes step 5 before 4
 abbrev pub hasFirst : Reader
-hasFirst = sooner Status.Unselected (λ f s image d. not (has f (ins d))) Status.Instruction
+hasFirst = sooner Status.Unselected (λ f s image d. not (has f (ins f d))) Status.Instruction
 
 -- takes step 6 before 5
 abbrev pub lengthFirst : Reader
-lengthFirst = sooner Status.Instruction (λ f s image d. known (ins d) and misfits f d) Status.Length
+lengthFirst = sooner Status.Instruction (λ f s image d. known (ins f d) and misfits f d) Status.Length
   where
     misfits : Facts → List ℕ → Bool
-    misfits f d = length d isnt (5 + following (ins d) (p3 d)) or not (lengthFits f (ins d) (p3 d))
+    misfits f d = length d isnt (5 + following (ins f d) (p3 d)) or not (lengthFits f (ins f d) (p3 d))
 
 -- takes step 7 before 6
 abbrev pub placeFirst : Reader
-placeFirst = sooner Status.Length (λ f s image d. leb 5 (length d) and not (placeFits f (ins d) (place d) (p3 d))) Status.Place
+placeFirst = sooner Status.Length (λ f s image d. leb 5 (length d) and not (placeFits f (ins f d) (address f d) (p3 d))) Status.Place
 
 -- takes step 8 before 7
 abbrev pub valueFirst : Reader
-valueFirst = sooner Status.Place (λ f s image d. not (valueFits f (ins d) (byte d 5))) Status.Value
+valueFirst = sooner Status.Place (λ f s image d. not (valueFits f (ins f d) (byte d 5))) Status.Value
 
 -- takes step 9 before 7
 abbrev pub openFirst : Reader
-openFirst = sooner Status.Place (λ f s image d. needsOpen (ins d) and f .coded and not (s .«open»)) Status.Denied
+openFirst = sooner Status.Place (λ f s image d. needsOpen (ins f d) and f .coded and not (s .«open»)) Status.Denied
 
 -- ---- steps 1 to 5
 -- takes a command of four bytes, P3 being 0
@@ -90,12 +87,12 @@ selectNeedsType = barring Status.Unselected λ f s image d. byte d 1 is 0xA4 and
 -- does D2 on 05h too
 abbrev pub changes4428 : Reader
 changes4428 = letting Status.Instruction λ f s image d.
-    f .selects is 0x05 and byte d 1 is 0xD2 and length d is 7 and p3 d is 2 and place d is 0x0001 and s .«open»
+    f .selects is 0x05 and byte d 1 is 0xD2 and length d is 7 and p3 d is 2 and p1p2 d is 0x0001 and s .«open»
 
 -- does 01 on a code card too
 abbrev pub pagesCodeCard : Reader
 pagesCodeCard = letting Status.Instruction λ f s image d.
-    f .coded and byte d 1 is 0x01 and length d is 6 and p3 d is 1 and place d is 0x0000 and leb 0x03 (byte d 5) and leb (byte d 5) 0x07
+    f .coded and byte d 1 is 0x01 and length d is 6 and p3 d is 1 and p1p2 d is 0x0000 and leb 0x03 (byte d 5) and leb (byte d 5) 0x07
 
 -- ---- step 6
 -- passes over bytes behind B0's P3
@@ -122,26 +119,26 @@ refuses255 = barring Status.Length λ f s image d. byte d 1 is 0xB0 and p3 d is 
 -- writes nothing where D0's P3 is 0, and says 90 00
 abbrev pub writesNothing : Reader
 writesNothing = letting Status.Length λ f s image d.
-    byte d 1 is 0xD0 and length d is 5 and p3 d is 0 and placeFits f Write (place d) 0 and (not (f .coded) or s .«open»)
+    byte d 1 is 0xD0 and length d is 5 and p3 d is 0 and placeFits f Write (p1p2 d) 0 and (not (f .coded) or s .«open»)
 
 -- tells the counter alone where B1's P3 is 1
 abbrev pub counterAlone : Reader
-counterAlone = letting Status.Length λ f s image d. byte d 1 is 0xB1 and length d is 5 and p3 d is 1 and place d is 0x0000
+counterAlone = letting Status.Length λ f s image d. byte d 1 is 0xB1 and length d is 5 and p3 d is 1 and p1p2 d is 0x0000
 
 -- takes B2 on 06h with fewer than four bytes
 abbrev pub fewerBits : Reader
 fewerBits = letting Status.Length λ f s image d.
-    f .selects is 0x06 and byte d 1 is 0xB2 and length d is 5 and leb 1 (p3 d) and ltb (p3 d) 4 and place d is 0x0000
+    f .selects is 0x06 and byte d 1 is 0xB2 and length d is 5 and leb 1 (p3 d) and ltb (p3 d) 4 and p1p2 d is 0x0000
 
 -- takes B2 on 05h with 33 bytes
 abbrev pub bits33 : Reader
 bits33 = letting Status.Length λ f s image d.
-    f .selects is 0x05 and byte d 1 is 0xB2 and length d is 5 and p3 d is 33 and leb (place d + 8 * 33) (f .covered)
+    f .selects is 0x05 and byte d 1 is 0xB2 and length d is 5 and p3 d is 33 and leb (p1p2 d + 8 * 33) (f .covered)
 
 -- takes A4 with more than one byte by its first
 abbrev pub selectsLonger : Reader
 selectsLonger = letting Status.Length λ f s image d.
-    byte d 1 is 0xA4 and length d is (5 + p3 d) and leb 1 (p3 d) and place d is 0x0000 and byte d 5 is f .selects
+    byte d 1 is 0xA4 and length d is (5 + p3 d) and leb 1 (p3 d) and p1p2 d is 0x0000 and byte d 5 is f .selects
 
 -- takes 20 with more bytes than the code has by its front
 abbrev pub longCode : Reader
@@ -154,7 +151,7 @@ shortCode = commanding λ f s image d.
     let e = commanded f s image d in
     let front = codeIn (f .code) (p3 d) image in
     refuses Status.Length (order f s d) and byte d 1 is 0x20 and length d is (5 + p3 d) and leb 1 (p3 d) and ltb (p3 d) (f .digits)
-    and place d is 0x0000 and counterOf f image isnt 0 and same (body d) front ⇒ stands (opened s) (counting f (f .full) e)
+    and p1p2 d is 0x0000 and counterOf f image isnt 0 and same (body d) front ⇒ stands (opened s) (counting f (f .full) e)
     ⁏ e
 
 -- ---- step 7
@@ -176,11 +173,11 @@ readsPast = letting Status.Place λ f s image d. byte d 1 is 0xB0
 
 -- reads one byte past the memory
 abbrev pub readsOnePast : Reader
-readsOnePast = letting Status.Place λ f s image d. byte d 1 is 0xB0 and upTo d is (f .memory + 1)
+readsOnePast = letting Status.Place λ f s image d. byte d 1 is 0xB0 and upTo f d is (f .memory + 1)
 
 -- does not read the memory's last byte
 abbrev pub readsOneLess : Reader
-readsOneLess = barring Status.Place λ f s image d. byte d 1 is 0xB0 and upTo d is f .memory
+readsOneLess = barring Status.Place λ f s image d. byte d 1 is 0xB0 and upTo f d is f .memory
 
 -- step 9 lets a D0 through
 abbrev pub mayWrite : Test
@@ -188,27 +185,27 @@ mayWrite f s image d = byte d 1 is 0xD0 and (not (f .coded) or s .«open»)
 
 -- writes one byte past the memory
 abbrev pub writesOnePast : Reader
-writesOnePast = letting Status.Place λ f s image d. mayWrite f s image d and upTo d is (f .memory + 1)
+writesOnePast = letting Status.Place λ f s image d. mayWrite f s image d and upTo f d is (f .memory + 1)
 
 -- writes over 3FDh, the 4428's counter
 abbrev pub writesCounter : Reader
-writesCounter = letting Status.Place λ f s image d. mayWrite f s image d and leb (upTo d) (f .memory)
+writesCounter = letting Status.Place λ f s image d. mayWrite f s image d and leb (upTo f d) (f .memory)
 
 -- does not write behind 3FDh, where the 4428's code stands
 abbrev pub sparesCode : Reader
-sparesCode = barring Status.Place λ f s image d. byte d 1 is 0xD0 and ltb (f .counter) (place d)
+sparesCode = barring Status.Place λ f s image d. byte d 1 is 0xD0 and ltb (f .counter) (p1p2 d)
 
 -- protects one byte past the reach of D1
 abbrev pub protectsOnePast : Reader
-protectsOnePast = letting Status.Place λ f s image d. byte d 1 is 0xD1 and s .«open» and upTo d is (f .reach + 1)
+protectsOnePast = letting Status.Place λ f s image d. byte d 1 is 0xD1 and s .«open» and upTo f d is (f .reach + 1)
 
 -- does not protect the last byte in the reach of D1
 abbrev pub protectsOneLess : Reader
-protectsOneLess = barring Status.Place λ f s image d. byte d 1 is 0xD1 and upTo d is f .reach
+protectsOneLess = barring Status.Place λ f s image d. byte d 1 is 0xD1 and upTo f d is f .reach
 
 -- counts bytes where B2 on 05h counts bits
 abbrev pub bitsAsBytes : Reader
-bitsAsBytes = letting Status.Place λ f s image d. f .selects is 0x05 and byte d 1 is 0xB2 and leb (upTo d) (f .covered)
+bitsAsBytes = letting Status.Place λ f s image d. f .selects is 0x05 and byte d 1 is 0xB2 and leb (upTo f d) (f .covered)
 
 -- ---- step 8
 -- selects the card's own type for any type that A4 names

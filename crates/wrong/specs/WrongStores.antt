@@ -16,7 +16,7 @@ use Rattle.codes.specs.Codes.{spending}
 use Rattle.chips.specs.declared.Facts.{Facts}
 use Rattle.slot.specs.Slots.{closed}
 use Rattle.steps.specs.declared.Status.{Status}
-use Rattle.steps.specs.Steps.{place, p3, body}
+use Rattle.steps.specs.Steps.{p1p2, p3, body}
 use Rattle.orders.specs.Orders.{done, unequal, writtenWord}
 use Rattle.wrong.specs.Wrong.{recounts, Reader, Twist, marking, tells, stands, leaves, upon, barring, doing}
 use Rattle.wrong.specs.WrongPlain.{freed}
@@ -35,23 +35,23 @@ someKept f image at n = found (firstProtected (f .bits) (f .covered) image at n)
 -- ---- let through
 -- asks step 10: refuses the whole write where a byte of the range is protected
 abbrev pub asksStep10 : Reader
-asksStep10 = barring Status.Denied λ f s image d. byte d 1 is 0xD0 and someKept f image (place d) (p3 d)
+asksStep10 = barring Status.Denied λ f s image d. byte d 1 is 0xD0 and someKept f image (p1p2 d) (p3 d)
 
 -- refuses D1 over a protected byte
 abbrev pub protectsOnce : Reader
-protectsOnce = barring Status.Denied λ f s image d. byte d 1 is 0xD1 and someKept f image (place d) (p3 d)
+protectsOnce = barring Status.Denied λ f s image d. byte d 1 is 0xD1 and someKept f image (p1p2 d) (p3 d)
 
 -- ---- our reader with one part put wrong (proofs/Parts)
 -- what a card without pages stores is `store`, of the image, the address and the bytes; the report is of that
 unfoldable pub storingBy : (Facts → List ℕ → ℕ → List ℕ → List ℕ) → Reader
 storingBy store = doing 0xD0 λ f s image d e.
-    let after = store f image (place d) (body d) in
+    let after = store f image (p1p2 d) (body d) in
     f .page isnt 0 ⇒ e
-    ⁏ tells (writtenWord f after (place d) (body d)) (leaves after e)
+    ⁏ tells (writtenWord f after (p1p2 d) (body d)) (leaves after e)
 
 -- the report is `report`, of the image before and after, the address and the bytes
 unfoldable pub reportingBy : (Facts → List ℕ → List ℕ → ℕ → List ℕ → Bool) → Reader
-reportingBy report = doing 0xD0 λ f s image d e. tells (report f image (e .image) (place d) (body d) ⇒ done ⁏ unequal) e
+reportingBy report = doing 0xD0 λ f s image d e. tells (report f image (e .image) (p1p2 d) (body d) ⇒ done ⁏ unequal) e
 
 -- a D0 that says 65 81 does something else
 unfoldable pub atUnequal : Twist → Reader

@@ -64,18 +64,28 @@ returns-14 c = sym (ap chipOf (c .match .keys14))
 
 returns-15 : tie.Need-returns-15
 unfolding chipOf chipAmong _⇒_⁏_
-returns-15 c =
+returns-15 c = sym (ap chipOf (c .match .keys15))
+
+returns-16 : tie.Need-returns-16
+unfolding chipOf chipAmong _⇒_⁏_
+returns-16 c = sym (ap chipOf (c .match .keys16))
+
+returns-17 : tie.Need-returns-17
+unfolding chipOf chipAmong _⇒_⁏_
+returns-17 c =
     let r = c .match .rest in
     simp (
-      ne-eqb _ 1 (r .0 .0 .0 .0 .0 .0 .0 .0 .0 .0 .0 .0 .0 .1),
-      ne-eqb _ 2 (r .0 .0 .0 .0 .0 .0 .0 .0 .0 .0 .0 .0 .1),
-      ne-eqb _ 3 (r .0 .0 .0 .0 .0 .0 .0 .0 .0 .0 .0 .1),
-      ne-eqb _ 4 (r .0 .0 .0 .0 .0 .0 .0 .0 .0 .0 .1),
-      ne-eqb _ 5 (r .0 .0 .0 .0 .0 .0 .0 .0 .0 .1),
-      ne-eqb _ 6 (r .0 .0 .0 .0 .0 .0 .0 .0 .1),
-      ne-eqb _ 7 (r .0 .0 .0 .0 .0 .0 .0 .1),
-      ne-eqb _ 8 (r .0 .0 .0 .0 .0 .0 .1),
-      ne-eqb _ 9 (r .0 .0 .0 .0 .0 .1),
+      ne-eqb _ 1 (r .0 .0 .0 .0 .0 .0 .0 .0 .0 .0 .0 .0 .0 .0 .0 .1),
+      ne-eqb _ 2 (r .0 .0 .0 .0 .0 .0 .0 .0 .0 .0 .0 .0 .0 .0 .1),
+      ne-eqb _ 3 (r .0 .0 .0 .0 .0 .0 .0 .0 .0 .0 .0 .0 .0 .1),
+      ne-eqb _ 4 (r .0 .0 .0 .0 .0 .0 .0 .0 .0 .0 .0 .0 .1),
+      ne-eqb _ 5 (r .0 .0 .0 .0 .0 .0 .0 .0 .0 .0 .0 .1),
+      ne-eqb _ 6 (r .0 .0 .0 .0 .0 .0 .0 .0 .0 .0 .1),
+      ne-eqb _ 7 (r .0 .0 .0 .0 .0 .0 .0 .0 .0 .1),
+      ne-eqb _ 8 (r .0 .0 .0 .0 .0 .0 .0 .0 .1),
+      ne-eqb _ 9 (r .0 .0 .0 .0 .0 .0 .0 .1),
+      ne-eqb _ 10 (r .0 .0 .0 .0 .0 .0 .1),
+      ne-eqb _ 11 (r .0 .0 .0 .0 .0 .1),
       ne-eqb _ 20 (r .0 .0 .0 .0 .1),
       ne-eqb _ 21 (r .0 .0 .0 .1),
       ne-eqb _ 30 (r .0 .0 .1),
@@ -100,4 +110,6 @@ chip-of-spec =
     returns-12
     returns-13
     returns-14
-    returns-15)
+    returns-15
+    returns-16
+    returns-17)

@@ -1,15 +1,15 @@
--- `decide` meets its contract: each arm is its instruction, and the ranges are none of them.
+-- `decide` meets its contract: each arm is what INS means, and the ranges are none of them.
 use borrow.Author.Needs.{needs}
-use mathlib.Core.Path.{_≡_, refl, ap}
+use mathlib.Core.Path.{_≡_, refl, sym, ap, ap₂, _∙_}
 use mathlib.Core.Bool.{not}
 use native.Mathlib.Omega.{arith}
 use borrow.Author.Tests.{ne-eqb, le-ltb}
 use lib.ListN.{length}
-use Rattle.words.proofs.Choices.{rest, taken, passed}
+use Rattle.words.proofs.Choices.{taken, passed}
 use Rattle.words.specs.Choice.{_⇒_⁏_}
 use Rattle.words.specs.Bytes.{byte}
 use Rattle.chips.specs.Kinds.{facts}
-use Rattle.steps.specs.Steps.{Ins, Select, Page, Read, Counter, Bits, Write, Protect, Present, Change, Other, insOf, place, p3, steps, order}
+use Rattle.steps.specs.Steps.{Ins, Select, Page, Read, Counter, Bits, Write, Protect, Present, Change, Other, insOf, placeOf, steps, order}
 use Rattle.steps.specs.declared.Order.{Order}
 use Rattle.steps.specs.declared.Status.{Status}
 use Prim.Native.Nat.{ℕ}
@@ -24,9 +24,6 @@ returns : tie.Need-returns
 unfolding order
 returns c = passed _ (le-ltb (length (c .before .before .before .args .apdu .now)) 5 (omega arith)) (taken _ (ap not (ne-eqb _ 0xFF (c .if1 .taken))))
 
-place-of-requires : tie.Need-place-of-requires
-place-of-requires c κs = search needs
-
 shared-slice-read-wide : tie.Need-shared-slice-read-wide
 shared-slice-read-wide c = search needs
 
@@ -36,8 +33,20 @@ wide-requires c κs = search needs
 byte-at-requires : tie.Need-byte-at-requires
 byte-at-requires c κs = search needs
 
-shared-slice-read-ins : tie.Need-shared-slice-read-ins
-shared-slice-read-ins c = search needs
+shared-slice-read-place : tie.Need-shared-slice-read-place
+shared-slice-read-place c = search needs
+
+p1p2-requires : tie.Need-p1p2-requires
+p1p2-requires c κs = search needs
+
+place-requires : tie.Need-place-requires
+place-requires c κs = search needs
+
+shared-slice-read-meant : tie.Need-shared-slice-read-meant
+shared-slice-read-meant c = search needs
+
+meant-requires : tie.Need-meant-requires
+meant-requires c κs = search needs
 
 select-order-requires : tie.Need-select-order-requires
 select-order-requires c κs = search needs
@@ -66,78 +75,75 @@ present-order-requires c κs = search needs
 change-order-requires : tie.Need-change-order-requires
 change-order-requires c κs = search needs
 
--- an arm: its handler's steps are those of the pseudo-APDU, INS being the arm's
-arm : (d : tie.After-byte-at) (i : Ins) (v : ℕ) {r : Order} → let a = d .before .before .before .before .before .before .before .args in
-    v ≡ byte (a .apdu .now) 5 → insOf (byte (a .apdu .now) 1) ≡ i
-    → r ≡ steps (facts (a .chip)) (a .slot) (length (a .apdu .now)) (d .before .before .before .place-of .result)
-    (d .before .wide .result) v i
+-- an arm: its handler's steps are those of the pseudo-APDU, INS meaning the arm's
+arm : (d : tie.After-meant) (i : Ins) (v : ℕ) {r : Order} → let at-byte-at = d .before .before .before .before .before in
+    let a = at-byte-at .before .before .before .before .before .before .args in
+    v ≡ byte (a .apdu .now) 5 → insOf (d .meant .result .ins) ≡ i
+    → r ≡ steps (facts (a .chip)) (a .slot) (length (a .apdu .now)) (at-byte-at .before .wide .result) v i (d .before .before .place .result)
     → r ≡ order (facts (a .chip)) (a .slot) (a .apdu .now)
 arm d i v e k h =
-    let at-place-of = d .before .before .before in
-    let at-if1 = at-place-of .before in
-    let start = at-if1 .before .before .before in
-    let a = start .args in
-    order-at (facts (a .chip)) (a .slot) (a .apdu .now) _ _ v i (omega arith) (at-if1 .if1 .left)
-    (at-place-of .place-of .ensures .0) (d .before .wide .ensures .0) e k h
+    let at-place = d .before .before in
+    let at-byte-at = at-place .before .before .before in
+    let at-if1 = at-byte-at .before .before .before in
+    let a = at-if1 .before .before .before .args in
+    let f = facts (a .chip) in
+    let w = at-byte-at .before .wide .ensures .0 in
+    order-at f (a .slot) (a .apdu .now) _ v i _ (omega arith) (at-if1 .if1 .left) w e
+    (sym (d .meant .ensures .0) ∙ k)
+    (at-place .place .ensures ∙ ap₂ (λ (n m : ℕ). placeOf f (insOf (byte (a .apdu .now) 1)) n m) (at-place .before .p1p2 .ensures .0) w) h
 
 returns-2 : tie.Need-returns-2
 unfolding insOf _⇒_⁏_
-returns-2 c = arm (c .before .before .before) Select _ (c .before .before .before .byte-at .ensures) (ap insOf (c .before .match .keys1)) (c .select-order .ensures)
+returns-2 c = arm (c .before .before) Select _ (c .before .before .before .before .before .before .before .byte-at .ensures) (ap insOf (c .before .match .keys1)) (c .select-order .ensures)
 
 returns-3 : tie.Need-returns-3
 unfolding insOf _⇒_⁏_
-returns-3 c = arm (c .before .before .before) Page _ (c .before .before .before .byte-at .ensures) (ap insOf (c .before .match .keys2)) (c .page-order .ensures)
+returns-3 c = arm (c .before .before) Page _ (c .before .before .before .before .before .before .before .byte-at .ensures) (ap insOf (c .before .match .keys2)) (c .page-order .ensures)
 
 returns-4 : tie.Need-returns-4
 unfolding insOf _⇒_⁏_
-returns-4 c = arm (c .before .before .before) Read _ refl (ap insOf (c .before .match .keys3)) (c .read-order .ensures _)
+returns-4 c = arm (c .before .before) Read _ refl (ap insOf (c .before .match .keys3)) (c .read-order .ensures _)
 
 returns-5 : tie.Need-returns-5
 unfolding insOf _⇒_⁏_
-returns-5 c = arm (c .before .before .before) Counter _ refl (ap insOf (c .before .match .keys4)) (c .counter-order .ensures _)
+returns-5 c = arm (c .before .before) Counter _ refl (ap insOf (c .before .match .keys4)) (c .counter-order .ensures _)
 
 returns-6 : tie.Need-returns-6
 unfolding insOf _⇒_⁏_
-returns-6 c = arm (c .before .before .before) Bits _ refl (ap insOf (c .before .match .keys5)) (c .bits-order .ensures _)
+returns-6 c = arm (c .before .before) Bits _ refl (ap insOf (c .before .match .keys5)) (c .bits-order .ensures _)
 
 returns-7 : tie.Need-returns-7
 unfolding insOf _⇒_⁏_
-returns-7 c = arm (c .before .before .before) Write _ refl (ap insOf (c .before .match .keys6)) (c .write-order .ensures _)
+returns-7 c = arm (c .before .before) Write _ refl (ap insOf (c .before .match .keys6)) (c .write-order .ensures _)
 
 returns-8 : tie.Need-returns-8
 unfolding insOf _⇒_⁏_
-returns-8 c = arm (c .before .before .before) Protect _ refl (ap insOf (c .before .match .keys7)) (c .protect-order .ensures _)
+returns-8 c = arm (c .before .before) Protect _ refl (ap insOf (c .before .match .keys7)) (c .protect-order .ensures _)
 
 returns-9 : tie.Need-returns-9
 unfolding insOf _⇒_⁏_
-returns-9 c = arm (c .before .before .before) Present _ refl (ap insOf (c .before .match .keys8)) (c .present-order .ensures _)
+returns-9 c = arm (c .before .before) Present _ refl (ap insOf (c .before .match .keys8)) (c .present-order .ensures _)
 
 returns-10 : tie.Need-returns-10
 unfolding insOf _⇒_⁏_
-returns-10 c = arm (c .before .before .before) Change _ refl (ap insOf (c .before .match .keys9)) (c .change-order .ensures _)
+returns-10 c = arm (c .before .before) Change _ refl (ap insOf (c .before .match .keys9)) (c .change-order .ensures _)
 
 -- any other INS
-none : (d : tie.After-byte-at) → let a = d .before .before .before .before .before .before .before .args in
-    insOf (byte (a .apdu .now) 1) ≡ Other
+none : (d : tie.After-meant) → let a = d .before .before .before .before .before .before .before .before .before .before .before .args in
+    insOf (d .meant .result .ins) ≡ Other
     → Order.Refuse Status.Instruction ≡ order (facts (a .chip)) (a .slot) (a .apdu .now)
 unfolding steps _⇒_⁏_
-none d o =
-    let at-if1 = d .before .before .before .before in
-    let start = at-if1 .before .before .before in
-    let a = start .args in
-    let apdu = a .apdu .now in
-    order-at (facts (a .chip)) (a .slot) apdu (place apdu) (p3 apdu) (byte apdu 5) Other (omega arith)
-    (at-if1 .if1 .left) refl refl refl o refl
+none d o = arm d Other _ refl o refl
 
 returns-11 : tie.Need-returns-11
 unfolding insOf _⇒_⁏_
-returns-11 c = none (c .before .before) (ap insOf (c .match .keys10))
+returns-11 c = none (c .before) (ap insOf (c .match .keys10))
 
 returns-12 : tie.Need-returns-12
 unfolding insOf _⇒_⁏_
 returns-12 c =
     let r = c .match .rest in
-    none (c .before .before) (simp (
+    none (c .before) (simp (
       ne-eqb _ 0xA4 (r .0 .0 .0 .0 .0 .0 .0 .0 .0 .1),
       ne-eqb _ 0x01 (r .0 .0 .0 .0 .0 .0 .0 .0 .1),
       ne-eqb _ 0xB0 (r .0 .0 .0 .0 .0 .0 .0 .1),
@@ -155,11 +161,14 @@ decide-spec =
     (tie.spec
     shared-slice-read-if1
     returns
-    place-of-requires
     shared-slice-read-wide
     wide-requires
     byte-at-requires
-    shared-slice-read-ins
+    shared-slice-read-place
+    p1p2-requires
+    place-requires
+    shared-slice-read-meant
+    meant-requires
     select-order-requires
     page-order-requires
     read-order-requires

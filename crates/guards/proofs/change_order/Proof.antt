@@ -10,23 +10,21 @@ use Rattle.steps.proofs.StepLaws.{Past4, Past5, Past6, PastP3, Past8, past3, pa
 use Rattle.guards.proofs.change_order.Statement.{statement}
 use Rattle.guards.proofs.change_order.Tie as tie
 
-on4 : (c : tie.Else1) → let a = c .before .before .args in Past4 (facts (a .chip)) (a .slot) (a .n) (a .at) (a .p) Change
+on4 : (c : tie.Else1) → let a = c .before .before .args in Past4 (facts (a .chip)) (a .slot) (a .n) (a .p) Change (a .ranged)
 on4 c = past4 (past3 refl) (c .if1 .left)
 
-on5 : (c : tie.Else2) → let a = c .before .before .before .before .args in Past5 (facts (a .chip)) (a .slot) (a .n) (a .at) (a .p) Change
+on5 : (c : tie.Else2) → let a = c .before .before .before .before .args in Past5 (facts (a .chip)) (a .slot) (a .n) (a .p) Change (a .ranged)
 on5 c = past5 (on4 (c .before .before)) (sym (c .before .has-change .ensures) ∙ not-false _ (c .if2 .left))
 
-on6 : (c : tie.Else3) → let a = c .before .before .before .before .before .args in Past6 (facts (a .chip)) (a .slot) (a .n) (a .at) (a .p) Change
+on6 : (c : tie.Else3) → let a = c .before .before .before .before .before .args in Past6 (facts (a .chip)) (a .slot) (a .n) (a .p) Change (a .ranged)
 on6 c = past6 (on5 (c .before)) (c .if3 .left)
 
-onP3 : (c : tie.Else4) → let a = c .before .before .before .before .before .before .before .before .args in PastP3 (facts (a .chip)) (a .slot) (a .n) (a .at) (a .p) Change
+onP3 : (c : tie.Else4) → let a = c .before .before .before .before .before .before .before .before .args in PastP3 (facts (a .chip)) (a .slot) (a .n) (a .p) Change (a .ranged)
 onP3 c = pastP3 (on6 (c .before .before .before)) (eq-eqb _ _ (c .if4 .left ∙ ap (λ (f : Facts). f .digits) (c .before .before .facts .ensures)))
 
-on8 : (c : tie.Else5) (v : ℕ) → let a = c .before .before .before .before .before .before .before .before .before .args in
-    Past8 (facts (a .chip)) (a .slot) (a .n) (a .at)
-    (a .p) Change v
-on8 c v =
-    past8 (past7 (onP3 (c .before)) (eq-eqb _ 1 (c .if5 .left))) v refl
+on8 : (c : tie.After-enum-told) (v : ℕ) → let a = c .before .before .before .before .before .before .before .before .before .before .args in
+    Past8 (facts (a .chip)) (a .slot) (a .n) (a .p) Change (a .ranged) (c .enum-told .given .0 .0) v
+on8 c v = past8 (past7 (onP3 (c .before .before)) (c .enum-told .given .1)) v refl
 
 returns : tie.Need-returns
 returns c v = stop4 (past3 refl) refl (c .if1 .taken) v
@@ -49,17 +47,23 @@ facts-requires c κs = search needs
 returns-4 : tie.Need-returns-4
 returns-4 c v = stopP3 (on6 (c .before .before .before)) (ne-eqb _ _ (λ e. c .if4 .taken (e ∙ sym (ap (λ (f : Facts). f .digits) (c .before .before .facts .ensures))))) v
 
+enum-told : tie.Need-enum-told
+enum-told c = search needs
+
+enum-told-2 : tie.Need-enum-told-2
+enum-told-2 c = search needs
+
 returns-5 : tie.Need-returns-5
-returns-5 c v = stop7 (onP3 (c .before)) (ne-eqb _ 1 (c .if5 .taken)) v
+returns-5 c v = stop7 (onP3 (c .before .before)) (c .enum-told2 .given .1) v
 
 locked-requires : tie.Need-locked-requires
 locked-requires c κs = search needs
 
 returns-6 : tie.Need-returns-6
-returns-6 c v = stop9 (on8 (c .before .before) v) refl (sym (c .before .locked .ensures) ∙ c .if6 .taken)
+returns-6 c v = stop9 (on8 (c .before .before) v) refl (sym (c .before .locked .ensures) ∙ c .if5 .taken)
 
 returns-7 : tie.Need-returns-7
-returns-7 c v = past9 (on8 (c .before .before) v) (sym (c .before .locked .ensures) ∙ c .if6 .left)
+returns-7 c v = past9 (on8 (c .before .before) v) (sym (c .before .locked .ensures) ∙ c .if5 .left)
 
 pub change-order-spec : {M : Type 1} → statement M
 change-order-spec =
@@ -72,6 +76,8 @@ change-order-spec =
     returns-3
     facts-requires
     returns-4
+    enum-told
+    enum-told-2
     returns-5
     locked-requires
     returns-6

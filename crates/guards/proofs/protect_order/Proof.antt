@@ -12,27 +12,21 @@ use Rattle.steps.proofs.StepLaws.{Past4, Past5, Past6, PastP3, Past8, past3, pa
 use Rattle.guards.proofs.protect_order.Statement.{statement}
 use Rattle.guards.proofs.protect_order.Tie as tie
 
-on4 : (c : tie.Else1) → let a = c .before .before .args in Past4 (facts (a .chip)) (a .slot) (a .n) (a .at) (a .p) Protect
+on4 : (c : tie.Else1) → let a = c .before .before .args in Past4 (facts (a .chip)) (a .slot) (a .n) (a .p) Protect (a .ranged)
 on4 c = past4 (past3 refl) (c .if1 .left)
 
-on5 : (c : tie.Else2) → let a = c .before .before .before .before .before .args in Past5 (facts (a .chip)) (a .slot) (a .n) (a .at) (a .p) Protect
+on5 : (c : tie.Else2) → let a = c .before .before .before .before .before .args in Past5 (facts (a .chip)) (a .slot) (a .n) (a .p) Protect (a .ranged)
 on5 c = past5 (on4 (c .before .before .before)) (ap not (ne-eqb _ 0 (λ e. c .if2 .left (ap (λ (f : Facts). f .covered) (c .before .before .facts .ensures) ∙ e))))
 
-on6 : (c : tie.Else3) → let a = c .before .before .before .before .before .before .args in Past6 (facts (a .chip)) (a .slot) (a .n) (a .at) (a .p) Protect
+on6 : (c : tie.Else3) → let a = c .before .before .before .before .before .before .args in Past6 (facts (a .chip)) (a .slot) (a .n) (a .p) Protect (a .ranged)
 on6 c = past6 (on5 (c .before)) (c .if3 .left)
 
-onP3 : (c : tie.Else4) → let a = c .before .before .before .before .before .before .before .args in PastP3 (facts (a .chip)) (a .slot) (a .n) (a .at) (a .p) Protect
+onP3 : (c : tie.Else4) → let a = c .before .before .before .before .before .before .before .args in PastP3 (facts (a .chip)) (a .slot) (a .n) (a .p) Protect (a .ranged)
 onP3 c = pastP3 (on6 (c .before)) (le-leb 1 _ (c .if4 .left))
 
-on8 : (c : tie.Else5) (v : ℕ) → let a = c .before .before .before .before .before .before .before .before .before .before .args in
-    Past8 (facts (a .chip)) (a .slot) (a .n) (a .at)
-    (a .p) Protect v
-on8 c v =
-    let start = c .before .before .before .before .before .before .before .before .before .before in
-    let a = start .args in
-    past8 (past7 (onP3 (c .before .before .before))
-    (le-leb (a .at + a .p) (facts (a .chip) .reach) (omega (arith, c .if5 .left, ap (λ (f : Facts). f .reach) (c .before .before .facts2 .ensures)))))
-    v refl
+on8 : (c : tie.After-ranged) (v : ℕ) → let a = c .before .before .before .before .before .before .before .before .before .args in
+    Past8 (facts (a .chip)) (a .slot) (a .n) (a .p) Protect (a .ranged) (c .ranged .given .0 .0) v
+on8 c v = past8 (past7 (onP3 (c .before .before)) (c .ranged .given .1)) v refl
 
 returns : tie.Need-returns
 returns c v = stop4 (past3 refl) refl (c .if1 .taken) v
@@ -52,28 +46,23 @@ returns-3 c v = stop6 (on5 (c .before)) (c .if3 .taken) v
 returns-4 : tie.Need-returns-4
 returns-4 c v = stopP3 (on6 (c .before)) (lt-leb 1 _ (c .if4 .taken)) v
 
-facts-requires-2 : tie.Need-facts-requires-2
-facts-requires-2 c κs = search needs
+enum-known-ranged : tie.Need-enum-known-ranged
+enum-known-ranged c = search needs
 
-add-if5 : tie.Need-add-if5
-add-if5 c = search needs
+enum-told : tie.Need-enum-told
+enum-told c = search needs
 
 returns-5 : tie.Need-returns-5
-returns-5 c v =
-    let start = c .before .before .before .before .before .before .before .before .before .before in
-    let a = start .args in
-    stop7 (onP3 (c .before .before .before))
-    (lt-leb (a .at + a .p) (facts (a .chip) .reach) (omega (arith, c .if5 .taken, ap (λ (f : Facts). f .reach) (c .before .before .facts2 .ensures))))
-    v
+returns-5 c v = stop7 (onP3 (c .before .before)) (c .enum-told .given .1) v
 
 locked-requires : tie.Need-locked-requires
 locked-requires c κs = search needs
 
 returns-6 : tie.Need-returns-6
-returns-6 c v = stop9 (on8 (c .before .before) v) refl (sym (c .before .locked .ensures) ∙ c .if6 .taken)
+returns-6 c v = stop9 (on8 (c .before .before .before) v) refl (sym (c .before .locked .ensures) ∙ c .if5 .taken)
 
 returns-7 : tie.Need-returns-7
-returns-7 c v = past9 (on8 (c .before .before) v) (sym (c .before .locked .ensures) ∙ c .if6 .left)
+returns-7 c v = past9 (on8 (c .before .before .before) v) (sym (c .before .locked .ensures) ∙ c .if5 .left)
 
 pub protect-order-spec : {M : Type 1} → statement M
 protect-order-spec =
@@ -85,8 +74,8 @@ protect-order-spec =
     add-if3
     returns-3
     returns-4
-    facts-requires-2
-    add-if5
+    enum-known-ranged
+    enum-told
     returns-5
     locked-requires
     returns-6

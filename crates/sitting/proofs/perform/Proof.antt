@@ -5,7 +5,7 @@ use native.Mathlib.Omega.{arith}
 use Prim.Native.Nat.{ℕ}
 use mathlib.Core.List.{List}
 use lib.ListN.{length, take}
-use Rattle.words.specs.Bounds.{largest, leastRoom}
+use Rattle.words.specs.Bounds.{largestHeld, leastRoom}
 use Rattle.frame.specs.Exchange.{exchange}
 use Rattle.sitting.specs.Sittings.{outcomeOf}
 use Rattle.words.proofs.Lists.{take-min}
@@ -42,7 +42,7 @@ returns c =
     let a = start .args in
     let im : List ℕ = a .image .now in
     let t : take (at-least .least .result) im ≡ take (a .held .size) im =
-    ap (λ (n : ℕ). take n im) (at-least .least .ensures) ∙ take-min (a .held .size) largest im (omega arith) in
+    ap (λ (n : ℕ). take n im) (at-least .least .ensures) ∙ take-min (a .held .size) largestHeld im (omega arith) in
     leaves-is (ap (λ (m : Mark). outcomeOf m (a .body .now) (a .held .slot) (take (a .held .size) im) leastRoom)
     (c .before .before .enum-told .given .1) ∙ ap (λ (b : List ℕ). outcomeOf Mark.Insert (a .body .now) (a .held .slot) b leastRoom) (sym t))
     (c .insert .ensures (a .answer .now))
@@ -65,7 +65,7 @@ returns-3 c =
     let a = start .args in
     let im : List ℕ = a .image .now in
     let t : take (at-least .least .result) im ≡ take (a .held .size) im =
-    ap (λ (n : ℕ). take n im) (at-least .least .ensures) ∙ take-min (a .held .size) largest im (omega arith) in
+    ap (λ (n : ℕ). take n im) (at-least .least .ensures) ∙ take-min (a .held .size) largestHeld im (omega arith) in
     let r : length (a .answer .now) ≡ leastRoom = omega arith in
     leaves-is (ap (λ (m : Mark). outcomeOf m (a .body .now) (a .held .slot) (take (a .held .size) im) leastRoom) (at-enum-told3 .enum-told3 .given .1)
     ∙ ap₂ (λ (b : List ℕ) (n : ℕ). exchange (a .held .slot) b (a .body .now) n) (sym t) (sym r)) (c .message .ensures)

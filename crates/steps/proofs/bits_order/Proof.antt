@@ -12,16 +12,16 @@ use Rattle.steps.proofs.StepLaws.{Past4, Past5, Past6, PastP3, past3, p
 use Rattle.steps.proofs.bits_order.Statement.{statement}
 use Rattle.steps.proofs.bits_order.Tie as tie
 
-on4 : (c : tie.Else1) → let a = c .before .before .args in Past4 (facts (a .chip)) (a .slot) (a .n) (a .at) (a .p) Bits
+on4 : (c : tie.Else1) → let a = c .before .before .args in Past4 (facts (a .chip)) (a .slot) (a .n) (a .p) Bits (a .ranged)
 on4 c = past4 (past3 refl) (c .if1 .left)
 
-on5 : (c : tie.Else2) → let a = c .before .before .before .before .before .args in Past5 (facts (a .chip)) (a .slot) (a .n) (a .at) (a .p) Bits
+on5 : (c : tie.Else2) → let a = c .before .before .before .before .before .args in Past5 (facts (a .chip)) (a .slot) (a .n) (a .p) Bits (a .ranged)
 on5 c = past5 (on4 (c .before .before .before)) (ap not (ne-eqb _ 0 (λ e. c .if2 .left (ap (λ (f : Facts). f .covered) (c .before .before .facts .ensures) ∙ e))))
 
-on6 : (c : tie.Else3) → let a = c .before .before .before .before .before .before .args in Past6 (facts (a .chip)) (a .slot) (a .n) (a .at) (a .p) Bits
+on6 : (c : tie.Else3) → let a = c .before .before .before .before .before .before .args in Past6 (facts (a .chip)) (a .slot) (a .n) (a .p) Bits (a .ranged)
 on6 c = past6 (on5 (c .before)) (c .if3 .left)
 
-onP3 : (c : tie.Else4) → let a = c .before .before .before .before .before .before .before .before .args in PastP3 (facts (a .chip)) (a .slot) (a .n) (a .at) (a .p) Bits
+onP3 : (c : tie.Else4) → let a = c .before .before .before .before .before .before .before .before .args in PastP3 (facts (a .chip)) (a .slot) (a .n) (a .p) Bits (a .ranged)
 onP3 c = pastP3 (on6 (c .before .before)) (sym (c .before .bits-length .ensures) ∙ not-false _ (c .if4 .left))
 
 returns : tie.Need-returns
@@ -42,30 +42,17 @@ bits-length-requires c κs = search needs
 returns-4 : tie.Need-returns-4
 returns-4 c v = stopP3 (on6 (c .before .before)) (sym (c .before .bits-length .ensures) ∙ not-true _ (c .if4 .taken)) v
 
-facts-requires-2 : tie.Need-facts-requires-2
-facts-requires-2 c κs = search needs
+enum-known-ranged : tie.Need-enum-known-ranged
+enum-known-ranged c = search needs
 
-mul-if5 : tie.Need-mul-if5
-mul-if5 c = search needs
-
-add-if5 : tie.Need-add-if5
-add-if5 c = search needs
+enum-told : tie.Need-enum-told
+enum-told c = search needs
 
 returns-5 : tie.Need-returns-5
-returns-5 c v =
-    let start = c .before .before .before .before .before .before .before .before .before .before .before in
-    let a = start .args in
-    stop7 (onP3 (c .before .before .before))
-    (lt-leb (a .at + 8 * a .p) (facts (a .chip) .covered)
-    (omega (arith, ap (λ (f : Facts). f .covered) (c .before .before .facts2 .ensures), c .if5 .taken))) v
+returns-5 c v = stop7 (onP3 (c .before .before)) (c .enum-told .given .1) v
 
 returns-6 : tie.Need-returns-6
-returns-6 c v =
-    let start = c .before .before .before .before .before .before .before .before .before .before .before in
-    let a = start .args in
-    past-all (past7 (onP3 (c .before .before .before))
-    (le-leb (a .at + 8 * a .p) (facts (a .chip) .covered)
-    (omega (arith, ap (λ (f : Facts). f .covered) (c .before .before .facts2 .ensures), c .if5 .left)))) v refl refl
+returns-6 c v = past-all (past7 (onP3 (c .before .before .before)) (c .before .ranged .given .1)) v refl refl
 
 pub bits-order-spec : {M : Type 1} → statement M
 bits-order-spec =
@@ -77,8 +64,7 @@ bits-order-spec =
     returns-3
     bits-length-requires
     returns-4
-    facts-requires-2
-    mul-if5
-    add-if5
+    enum-known-ranged
+    enum-told
     returns-5
     returns-6)

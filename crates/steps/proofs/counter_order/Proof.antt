@@ -12,16 +12,16 @@ use Rattle.steps.proofs.StepLaws.{Past4, Past5, Past6, PastP3, past3, p
 use Rattle.steps.proofs.counter_order.Statement.{statement}
 use Rattle.steps.proofs.counter_order.Tie as tie
 
-on4 : (c : tie.Else1) → let a = c .before .before .args in Past4 (facts (a .chip)) (a .slot) (a .n) (a .at) (a .p) Counter
+on4 : (c : tie.Else1) → let a = c .before .before .args in Past4 (facts (a .chip)) (a .slot) (a .n) (a .p) Counter (a .ranged)
 on4 c = past4 (past3 refl) (c .if1 .left)
 
-on5 : (c : tie.Else2) → let a = c .before .before .before .before .before .args in Past5 (facts (a .chip)) (a .slot) (a .n) (a .at) (a .p) Counter
+on5 : (c : tie.Else2) → let a = c .before .before .before .before .before .args in Past5 (facts (a .chip)) (a .slot) (a .n) (a .p) Counter (a .ranged)
 on5 c = past5 (on4 (c .before .before .before)) (sym (ap (λ (f : Facts). f .coded) (c .before .before .facts .ensures)) ∙ not-false _ (c .if2 .left))
 
-on6 : (c : tie.Else3) → let a = c .before .before .before .before .before .before .args in Past6 (facts (a .chip)) (a .slot) (a .n) (a .at) (a .p) Counter
+on6 : (c : tie.Else3) → let a = c .before .before .before .before .before .before .args in Past6 (facts (a .chip)) (a .slot) (a .n) (a .p) Counter (a .ranged)
 on6 c = past6 (on5 (c .before)) (c .if3 .left)
 
-onP3 : (c : tie.Else4) → let a = c .before .before .before .before .before .before .before .before .before .args in PastP3 (facts (a .chip)) (a .slot) (a .n) (a .at) (a .p) Counter
+onP3 : (c : tie.Else4) → let a = c .before .before .before .before .before .before .before .before .before .args in PastP3 (facts (a .chip)) (a .slot) (a .n) (a .p) Counter (a .ranged)
 onP3 c = pastP3 (on6 (c .before .before .before)) (eq-eqb _ _ (c .if4 .left ∙ ap (λ (f : Facts). f .digits + 1) (c .before .before .facts2 .ensures)))
 
 returns : tie.Need-returns
@@ -47,11 +47,17 @@ returns-4 c v =
     stopP3 (on6 (c .before .before .before))
     (ne-eqb _ _ (λ e. c .if4 .taken (e ∙ sym (ap (λ (f : Facts). f .digits + 1) (c .before .before .facts2 .ensures))))) v
 
+enum-told : tie.Need-enum-told
+enum-told c = search needs
+
+enum-told-2 : tie.Need-enum-told-2
+enum-told-2 c = search needs
+
 returns-5 : tie.Need-returns-5
-returns-5 c v = stop7 (onP3 (c .before)) (ne-eqb _ 0 (c .if5 .taken)) v
+returns-5 c v = stop7 (onP3 (c .before .before)) (c .enum-told2 .given .1) v
 
 returns-6 : tie.Need-returns-6
-returns-6 c v = past-all (past7 (onP3 (c .before)) (eq-eqb _ 0 (c .if5 .left))) v refl refl
+returns-6 c v = past-all (past7 (onP3 (c .before .before)) (c .enum-told .given .1)) v refl refl
 
 pub counter-order-spec : {M : Type 1} → statement M
 counter-order-spec =
@@ -64,5 +70,7 @@ counter-order-spec =
     facts-requires-2
     add-if4
     returns-4
+    enum-told
+    enum-told-2
     returns-5
     returns-6)

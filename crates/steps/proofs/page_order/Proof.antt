@@ -15,20 +15,21 @@ use Rattle.steps.proofs.StepLaws.{Past4, Past5, Past6, PastP3, Past7, p
 use Rattle.steps.proofs.page_order.Statement.{statement}
 use Rattle.steps.proofs.page_order.Tie as tie
 
-on4 : (c : tie.Else1) → let a = c .before .before .args in Past4 (facts (a .chip)) (a .slot) (a .n) (a .at) (a .p) Page
+on4 : (c : tie.Else1) → let a = c .before .before .args in Past4 (facts (a .chip)) (a .slot) (a .n) (a .p) Page (a .ranged)
 on4 c = past4 (past3 refl) (c .if1 .left)
 
-on5 : (c : tie.Else2) → let a = c .before .before .before .before .before .args in Past5 (facts (a .chip)) (a .slot) (a .n) (a .at) (a .p) Page
+on5 : (c : tie.Else2) → let a = c .before .before .before .before .before .args in Past5 (facts (a .chip)) (a .slot) (a .n) (a .p) Page (a .ranged)
 on5 c = past5 (on4 (c .before .before .before)) (ap not (ne-eqb _ 0 (λ e. c .if2 .left (ap (λ (f : Facts). f .page) (c .before .before .facts .ensures) ∙ e))))
 
-on6 : (c : tie.Else3) → let a = c .before .before .before .before .before .before .args in Past6 (facts (a .chip)) (a .slot) (a .n) (a .at) (a .p) Page
+on6 : (c : tie.Else3) → let a = c .before .before .before .before .before .before .args in Past6 (facts (a .chip)) (a .slot) (a .n) (a .p) Page (a .ranged)
 on6 c = past6 (on5 (c .before)) (c .if3 .left)
 
-onP3 : (c : tie.Else4) → let a = c .before .before .before .before .before .before .before .args in PastP3 (facts (a .chip)) (a .slot) (a .n) (a .at) (a .p) Page
+onP3 : (c : tie.Else4) → let a = c .before .before .before .before .before .before .before .args in PastP3 (facts (a .chip)) (a .slot) (a .n) (a .p) Page (a .ranged)
 onP3 c = pastP3 (on6 (c .before)) (eq-eqb _ 1 (c .if4 .left))
 
-on7 : (c : tie.Else5) → let a = c .before .before .before .before .before .before .before .before .args in Past7 (facts (a .chip)) (a .slot) (a .n) (a .at) (a .p) Page
-on7 c = past7 (onP3 (c .before)) (eq-eqb _ 0 (c .if5 .left))
+on7 : (c : tie.After-enum-told) → let a = c .before .before .before .before .before .before .before .before .before .args in
+    Past7 (facts (a .chip)) (a .slot) (a .n) (a .p) Page (a .ranged) (c .enum-told .given .0 .0)
+on7 c = past7 (onP3 (c .before .before)) (c .enum-told .given .1)
 
 returns : tie.Need-returns
 returns c = stop4 (past3 refl) refl (c .if1 .taken) _
@@ -48,24 +49,30 @@ returns-3 c = stop6 (on5 (c .before)) (c .if3 .taken) _
 returns-4 : tie.Need-returns-4
 returns-4 c = stopP3 (on6 (c .before)) (ne-eqb _ 1 (c .if4 .taken)) _
 
+enum-told : tie.Need-enum-told
+enum-told c = search needs
+
+enum-told-2 : tie.Need-enum-told-2
+enum-told-2 c = search needs
+
 returns-5 : tie.Need-returns-5
-returns-5 c = stop7 (onP3 (c .before)) (ne-eqb _ 0 (c .if5 .taken)) _
+returns-5 c = stop7 (onP3 (c .before .before)) (c .enum-told2 .given .1) _
 
 returns-6 : tie.Need-returns-6
-returns-6 c = stop8 (on7 (c .before)) _ (sym (and-fails _ (lt-leb 3 _ (c .if6 .taken))))
+returns-6 c = stop8 (on7 (c .before)) _ (sym (and-fails _ (lt-leb 3 _ (c .if5 .taken))))
 
 returns-7 : tie.Need-returns-7
-returns-7 c = stop8 (on7 (c .before .before)) _ (sym (and-holds (le-leb 3 _ (c .before .if6 .left)) (sym (lt-leb _ 7 (c .if7 .taken)))))
+returns-7 c = stop8 (on7 (c .before .before)) _ (sym (and-holds (le-leb 3 _ (c .before .if5 .left)) (sym (lt-leb _ 7 (c .if6 .taken)))))
 
 shl-t17 : tie.Need-shl-t17
 shl-t17 c = search needs
 
 returns-8 : tie.Need-returns-8
 returns-8 c =
-    let v = c .before .before .before .before .before .before .before .before .before .before .args .v in
-    let small : 2 ^ v ≤ 2 ^ 7 = pow-mono (c .if7 .left) in
+    let v = c .before .before .before .before .before .before .before .before .before .before .before .args .v in
+    let small : 2 ^ v ≤ 2 ^ 7 = pow-mono (c .if6 .left) in
     let e : 1 * 2 ^ v % 256 ≡ 2 ^ v = omega (arith, small) in
-    ap Order.Page e ∙ past-all (on7 (c .before .before)) v (both (le-leb 3 _ (c .before .if6 .left)) (le-leb _ 7 (c .if7 .left))) refl
+    ap Order.Page e ∙ past-all (on7 (c .before .before)) v (both (le-leb 3 _ (c .before .if5 .left)) (le-leb _ 7 (c .if6 .left))) refl
 
 pub page-order-spec : {M : Type 1} → statement M
 page-order-spec =
@@ -77,6 +84,8 @@ page-order-spec =
     add-if3
     returns-3
     returns-4
+    enum-told
+    enum-told-2
     returns-5
     returns-6
     returns-7

@@ -62,17 +62,29 @@ i2c-row-requires-9 c κs = search needs
 enum-told-10 : tie.Need-enum-told-10
 enum-told-10 c = search needs
 
+i2c-row-requires-10 : tie.Need-i2c-row-requires-10
+i2c-row-requires-10 c κs = search needs
+
 enum-told-11 : tie.Need-enum-told-11
 enum-told-11 c = search needs
 
-row-without-code-requires : tie.Need-row-without-code-requires
-row-without-code-requires c κs = search needs
+i2c-row-requires-11 : tie.Need-i2c-row-requires-11
+i2c-row-requires-11 c κs = search needs
 
 enum-told-12 : tie.Need-enum-told-12
 enum-told-12 c = search needs
 
 enum-told-13 : tie.Need-enum-told-13
 enum-told-13 c = search needs
+
+row-without-code-requires : tie.Need-row-without-code-requires
+row-without-code-requires c κs = search needs
+
+enum-told-14 : tie.Need-enum-told-14
+enum-told-14 c = search needs
+
+enum-told-15 : tie.Need-enum-told-15
+enum-told-15 c = search needs
 
 row-without-code-requires-2 : tie.Need-row-without-code-requires-2
 row-without-code-requires-2 c κs = search needs
@@ -105,16 +117,22 @@ returns-9 : tie.Need-returns-9
 returns-9 c = c .i2c-row9 .ensures ∙ sym (ap facts (c .before .enum-told9 .given .1))
 
 returns-10 : tie.Need-returns-10
-returns-10 c = sym (ap facts (c .enum-told10 .given .1))
+returns-10 c = c .i2c-row10 .ensures ∙ sym (ap facts (c .before .enum-told10 .given .1))
 
 returns-11 : tie.Need-returns-11
-returns-11 c = c .row-without-code .ensures ∙ sym (ap facts (c .before .enum-told11 .given .1))
+returns-11 c = c .i2c-row11 .ensures ∙ sym (ap facts (c .before .enum-told11 .given .1))
 
 returns-12 : tie.Need-returns-12
 returns-12 c = sym (ap facts (c .enum-told12 .given .1))
 
 returns-13 : tie.Need-returns-13
-returns-13 c = c .row-without-code2 .ensures ∙ sym (ap facts (c .before .enum-told13 .given .1))
+returns-13 c = c .row-without-code .ensures ∙ sym (ap facts (c .before .enum-told13 .given .1))
+
+returns-14 : tie.Need-returns-14
+returns-14 c = sym (ap facts (c .enum-told14 .given .1))
+
+returns-15 : tie.Need-returns-15
+returns-15 c = c .row-without-code2 .ensures ∙ sym (ap facts (c .before .enum-told15 .given .1))
 
 pub facts-spec : {M : Type 1} → statement M
 facts-spec =
@@ -139,10 +157,14 @@ facts-spec =
     enum-told-9
     i2c-row-requires-9
     enum-told-10
+    i2c-row-requires-10
     enum-told-11
-    row-without-code-requires
+    i2c-row-requires-11
     enum-told-12
     enum-told-13
+    row-without-code-requires
+    enum-told-14
+    enum-told-15
     row-without-code-requires-2
     returns
     returns-2
@@ -156,4 +178,6 @@ facts-spec =
     returns-10
     returns-11
     returns-12
-    returns-13)
+    returns-13
+    returns-14
+    returns-15)
