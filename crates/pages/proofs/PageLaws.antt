@@ -42,6 +42,13 @@ page-inside chip p k n some b w h =
     let low : suc (p / chip) ≤ q = div-lt-iff-lt-mul some .1 inside in
     omega (arith, whole, mul-le-mul-left chip low, mul-suc chip (p / chip), div-add-mod p chip)
 
+-- the end of a reader page is the start of the next
+pub page-end : (reader c : ℕ) → (c - c % reader + reader) % reader ≡ 0
+page-end reader c = add-mod-right (c - c % reader) reader ∙ ap (λ (n : ℕ). n % reader) start ∙ mul-mod-right reader (c / reader)
+  where
+    start : c - c % reader ≡ reader * (c / reader)
+    start = omega (arith, div-add-mod c reader)
+
 -- where the cut of an address starts, asked a second time
 cut-again : (reader c a : ℕ) → cutStart reader (cutStart reader c a) a ≡ cutStart reader c a
 unfolding cutStart _⇒_⁏_
@@ -135,13 +142,6 @@ module _ (reader chip : ℕ) (some : 0 < reader) (whole : reader ∣ chip) (room
       let inside : c % chip + (a - c) < chip = omega (arith, within c, mod-le c reader, mod-lt c some) in
       rw (mod-eq-of-lt inside) (omega (arith, mod-le c chip))
 
-  -- the end of a reader page is the start of the next
-  page-end : (c : ℕ) → (c - c % reader + reader) % reader ≡ 0
-  page-end c = add-mod-right (c - c % reader) reader ∙ ap (λ (n : ℕ). n % reader) start ∙ mul-mod-right reader (c / reader)
-    where
-      start : c - c % reader ≡ reader * (c / reader)
-      start = omega (arith, div-add-mod c reader)
-
   -- the cut so far kept to its reader page
   cut-range : (image : List ℕ) (c a : ℕ) (vs : List ℕ) → c ≤ a → a ≤ c - c % reader + reader → pageWrite reader chip image c a vs ≡ sets image a vs
   unfolding pageWrite cutStart
@@ -163,7 +163,7 @@ module _ (reader chip : ℕ) (some : 0 < reader) (whole : reader ∣ chip) (room
       inner e = go (eqb a (c - c % reader + reader)) refl
         where
           go : (b : Bool) → eqb a (c - c % reader + reader) ≡ b → a < c - c % reader + reader
-          go true d = absurd (eqb-false _ _ e (ap (λ (n : ℕ). n % reader) (eqb-true _ _ d) ∙ page-end c))
+          go true d = absurd (eqb-false _ _ e (ap (λ (n : ℕ). n % reader) (eqb-true _ _ d) ∙ page-end reader c))
           go false d = omega (arith, eqb-false a (c - c % reader + reader) d)
 
   write-sets : (image : List ℕ) (at : ℕ) (vs : List ℕ) → pageWrite reader chip image at at vs ≡ sets image at vs

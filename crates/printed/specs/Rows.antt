@@ -82,36 +82,40 @@ rows =
     ∷ (insert 1 (image1 0) ++ insert 1 (image1 0) ++ insert 255 [] gives "in 0" ∷ "in 5" ∷ "in 5" ∷ [])
     -- 7. an insert with an empty body counts as one of unknown kind
     ∷ (recorded 0x43 0x49 [] ++ insert 1 (image1 0) ++ recorded 0x43 0x49 [] gives "in 3" ∷ "in 0" ∷ "in 5" ∷ [])
-    -- 8. `out 0`, with a card and without one
+    -- 8. 02: kinds 10 and 11 are taken as unknown, and an insert of one leaves the card that is in
+    ∷ (insert 10 (image1 0) ++ insert 11 [] ++ insert 1 (image1 0x5A) ++ insert 10 (image1 0) ++ insert 11 (image1 0) ++ powerRecord ++ selectRecord ++ read3
+    gives "in 3" ∷ "in 3" ∷ "in 0" ∷ "in 5" ∷ "in 5" ∷ "msg 0 800200000000000000003b00" ∷ "msg 0 800200000000000000009000"
+    ∷ "msg 0 800500000000000000005a5a5a9000" ∷ [])
+    -- 9. `out 0`, with a card and without one
     ∷ (insert 1 (image1 0) ++ remove ++ remove ++ status gives "in 0" ∷ "out 0" ∷ "out 0" ∷ "msg 0 81000000000000020001" ∷ [])
-    -- 9. `msg K` alone where the message is turned down: nine bytes, and none
+    -- 10. `msg K` alone where the message is turned down: nine bytes, and none
     ∷ (message (0x65 ∷ 0 ∷ 0 ∷ 0 ∷ 0 ∷ 0 ∷ 0 ∷ 0 ∷ 0 ∷ []) ++ message [] gives "msg 2" ∷ "msg 2" ∷ [])
-    -- 10. for K = 0 a blank and the answer in lower-case hex; the slot and the image are those that the last record left
+    -- 11. for K = 0 a blank and the answer in lower-case hex; the slot and the image are those that the last record left
     ∷ (insert 1 (image1 0x5A) ++ powerRecord ++ selectRecord ++ read3 ++ write3 ++ read3
     gives "in 0" ∷ "msg 0 800200000000000000003b00" ∷ "msg 0 800200000000000000009000" ∷ "msg 0 800500000000000000005a5a5a9000"
     ∷ "msg 0 800200000000000000009000" ∷ "msg 0 80050000000000000000abcdef9000" ∷ [])
-    -- 11. an insert that is turned down leaves the card that is in; 12. a removed card's image is gone
+    -- 12. an insert that is turned down leaves the card that is in; 13. a removed card's image is gone
     ∷ (insert 1 (image1 0x5A) ++ powerRecord ++ selectRecord ++ insert 1 (image1 0x66) ++ read3
     gives "in 0" ∷ "msg 0 800200000000000000003b00" ∷ "msg 0 800200000000000000009000" ∷ "in 5" ∷ "msg 0 800500000000000000005a5a5a9000" ∷ [])
     ∷ (insert 1 (image1 0x5A) ++ remove ++ insert 1 (image1 0x66) ++ powerRecord ++ selectRecord ++ read3
     gives "in 0" ∷ "out 0" ∷ "in 0" ∷ "msg 0 800200000000000000003b00" ∷ "msg 0 800200000000000000009000" ∷ "msg 0 800500000000000000006666669000" ∷ [])
-    -- 13. two equal records are two
+    -- 14. two equal records are two
     ∷ (status ++ status gives "msg 0 81000000000000020001" ∷ "msg 0 81000000000000020001" ∷ [])
-    -- 14. the length's low byte comes first: a message of 256 bytes, whose dwLength is wrong
+    -- 15. the length's low byte comes first: a message of 256 bytes, whose dwLength is wrong
     ∷ (0x4F ∷ 0x4D ∷ 0x00 ∷ 0x01 ∷ 0x65 ∷ replicate 255 0 gives "msg 0 81000000000000420101" ∷ [])
-    -- 15. to 17. a cut header; 18. and 19. a cut body
+    -- 16. to 18. a cut header; 19. and 20. a cut body
     ∷ (remove ++ (0x43 ∷ []) gives "out 0" ∷ "bad" ∷ [])
     ∷ (0x43 ∷ 0x4F ∷ [] gives "bad" ∷ [])
     ∷ (0x43 ∷ 0x4F ∷ 0x00 ∷ [] gives "bad" ∷ [])
     ∷ (status ++ (0x4F ∷ 0x4D ∷ 0x01 ∷ 0x00 ∷ []) gives "msg 0 81000000000000020001" ∷ "bad" ∷ [])
     ∷ (0x4F ∷ 0x4D ∷ 0x02 ∷ 0x00 ∷ 0x65 ∷ [] gives "bad" ∷ [])
-    -- 20. another mark; 21. and a mark's bytes the other way round. Nothing is printed after `bad`
+    -- 21. another mark; 22. and a mark's bytes the other way round. Nothing is printed after `bad`
     ∷ (0x4F ∷ 0x4E ∷ 0x00 ∷ 0x00 ∷ remove gives "bad" ∷ [])
     ∷ (0x4F ∷ 0x43 ∷ 0x00 ∷ 0x00 ∷ remove gives "bad" ∷ [])
-    -- 22. a body of 32,769 bytes is taken; 23. one of 32,770 is not, though it is there, 24. nor where it is not
+    -- 23. a body of 32,769 bytes is taken; 24. one of 32,770 is not, though it is there, 25. nor where it is not
     ∷ (insert 9 (replicate 32768 0) ++ message (replicate 32769 0) gives "in 0" ∷ "msg 0 81000000000000410001" ∷ [])
     ∷ (insert 9 (replicate 32769 0) ++ remove gives "bad" ∷ [])
     ∷ (remove ++ (0x4F ∷ 0x4D ∷ 0x02 ∷ 0x80 ∷ []) gives "out 0" ∷ "bad" ∷ [])
-    -- 25. a remove body that is not empty, and nothing after `bad`
+    -- 26. a remove body that is not empty, and nothing after `bad`
     ∷ (recorded 0x43 0x4F (0 ∷ []) ++ remove gives "bad" ∷ [])
     ∷ []

@@ -16,6 +16,9 @@ pub mod Protected
 pub mod Plain
 pub mod Guarded
 pub mod Stored
+pub mod Seats
+pub mod Paged
+pub mod Addresses
 pub mod Wrote
 pub mod Counted
 pub mod Screens

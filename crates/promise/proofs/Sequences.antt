@@ -1,12 +1,12 @@
 -- Sequences of calls are runs: what `card_reader_message` leaves of a raw record and an image, and `sitting::perform` of what is held, is what
 -- the run leaves, so the sentence holds of both.
 use Prim.Native.Nat.{ℕ, zero, suc}
-use mathlib.Core.Path.{_≡_, refl, sym, ap, _∙_, subst, subst⁻¹}
+use mathlib.Core.Path.{_≡_, refl, sym, ap, ap₂, _∙_, subst, subst⁻¹}
 use mathlib.Core.Bool.{true}
 use mathlib.Core.List.{List, [], _∷_}
 use native.Mathlib.Omega.{arith}
 use lib.ListN.{length, take, drop, replicate, length-replicate}
-use lib.IntN.{pos}
+use lib.IntN.{ℤ, pos}
 use borrow.Author.Tests.{eq-eqb}
 use Rattle.words.specs.Choice.{_isnt_}
 use Rattle.words.specs.Bytes.{byte, over}
@@ -24,7 +24,7 @@ use Rattle.record.proofs.Records.{reads-back}
 use Rattle.frame.specs.Exchange.{Outcome, served, exchange, insertion, reply, replied}
 use Rattle.reader.specs.declared.Meant.{Meant}
 use Rattle.reader.specs.Fronts.{frontOf, fronted}
-use Rattle.reader.specs.Runs.{Sent, run}
+use Rattle.reader.specs.Runs.{Sent, sending, run}
 use Rattle.reader.proofs.Fronting.{exchange-fronted}
 use Rattle.calls.specs.Calls.{RawOutcome, keeping, rawServed, rawFronted, rawExchange, rawInsertion, resultOf, Returns}
 use Rattle.sitting.specs.declared.Held.{Held}
@@ -107,6 +107,22 @@ sat-run {h} {had} (sat m {d = d} {left = left} g later) s image e i =
     let k : exchange (h .slot) (take (h .size) had) m leastRoom ≡ o = ap (λ (t : Slot). exchange t (take (h .size) had) m leastRoom) e
     ∙ ap (λ (l : List ℕ). exchange s l m leastRoom) i in
     sat-run later (o .slot) (o .image) (g .slot ∙ ap (λ (x : Outcome). x .slot) k) (held-is g ∙ ap (λ (x : Outcome). x .image) k)
+
+-- one message by `card_reader_message` on the record of a slot, and by `sitting::perform` on what is held: what it leaves is the reader's
+pub call-image : (s : Slot) (image : List ℕ) (m : Sent) {n : ℤ} {left next was out : List ℕ}
+    → Returns (rawExchange (rawOf s) image (m .message) (m .room)) n left next was out → next ≡ sending s image m .image
+call-image s image m g = g .image ∙ ap (λ (o : RawOutcome). o .image) (raw-exchange-is s image (m .message) (m .room))
+
+pub sitting-sends : (h : Held) (had : List ℕ) (s : Slot) (image : List ℕ) (m : Sent) → h .slot ≡ s → take (h .size) had ≡ image → m .room ≡ leastRoom
+    → outcomeOf Mark.Message (m .message) (h .slot) (take (h .size) had) leastRoom ≡ sending s image m
+unfolding outcomeOf
+sitting-sends h had s image m p q r =
+    ap₂ (λ (t : Slot) (i : List ℕ). exchange t i (m .message) leastRoom) p q ∙ ap (exchange s image (m .message)) (sym r)
+
+pub sitting-image : (h : Held) (had : List ℕ) (s : Slot) (image : List ℕ) (m : Sent) → h .slot ≡ s → take (h .size) had ≡ image → m .room ≡ leastRoom
+    → {d : Done} {left was out : List ℕ} → Leaves (outcomeOf Mark.Message (m .message) (h .slot) (take (h .size) had) leastRoom) d had left was out
+    → take (d .held .size) left ≡ sending s image m .image
+sitting-image h had s image m p q r g = held-is g ∙ ap (λ (o : Outcome). o .image) (sitting-sends h had s image m p q r)
 
 -- any messages can be performed
 pub sittings-go : (h : Held) (had : List ℕ) (ms : List (List ℕ)) → SomeSitting h had (lent ms)

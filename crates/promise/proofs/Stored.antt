@@ -32,7 +32,7 @@ use Rattle.orders.proofs.ImageKept.{written-stores}
 use Rattle.faults.specs.declared.Fault.{Fault}
 use Rattle.faults.specs.Faults.{Transfer, apdu}
 use Rattle.frame.specs.Answers.{answer}
-use Rattle.frame.specs.Exchange.{Outcome, answered, exchange}
+use Rattle.frame.specs.Exchange.{Outcome, answered}
 use Rattle.reader.specs.Runs.{Sent, sending}
 use Rattle.reader.proofs.Came.{heard-proper}
 use Rattle.reader.proofs.Kept.{proper-card}
@@ -40,11 +40,10 @@ use Rattle.calls.specs.Calls.{RawOutcome, rawExchange, Returns}
 use Rattle.sitting.specs.declared.Held.{Held}
 use Rattle.sitting.specs.declared.Done.{Done}
 use Rattle.sitting.specs.Sittings.{outcomeOf, Leaves}
-use Rattle.sitting.proofs.Holding.{held-is}
 use Rattle.promise.specs.Protected.{protectedIn}
 use Rattle.promise.specs.Stored.{Writes, sentBy, placeAfter, readsBack, protectedEqual, Stored, wordTold}
 use Rattle.promise.proofs.Reached.{transfer-does}
-use Rattle.promise.proofs.Sequences.{raw-exchange-is}
+use Rattle.promise.proofs.Sequences.{raw-exchange-is, call-image, sitting-sends, sitting-image}
 
 -- ---- when the range ends equal, told from the image before
 -- in an image whose every place of the range is the byte sent or, where it is protected, the one before
@@ -74,25 +73,25 @@ module _ (chip : Chip) (s : Slot) (image : List ℕ) (m : Sent) (at : ℕ) (hold
   b = sentBy m
 
   -- what comes of it
-  wrote : sending s image m ≡ answered Transfer (m .message) Fault.Clear (performed f s image b (Order.Write at))
-  wrote = transfer-does chip s image m holds (w .isHeard) (w .asked) ∙ ap (λ (o : Order). answered Transfer (m .message) Fault.Clear (performed f s image b o)) (w .ends)
+  pub write-does : sending s image m ≡ answered Transfer (m .message) Fault.Clear (performed f s image b (Order.Write at))
+  write-does = transfer-does chip s image m holds (w .isHeard) (w .asked) ∙ ap (λ (o : Order). answered Transfer (m .message) Fault.Clear (performed f s image b o)) (w .ends)
 
-  card : IsCard f image
-  card = proper-card chip s image holds (heard-proper s image m (w .isHeard))
+  pub write-card : IsCard f image
+  write-card = proper-card chip s image holds (heard-proper s image m (w .isHeard))
 
-  inside : at + length b ≤ f .memory
-  inside = subst (Fit f b) (w .ends) (order-fits f s (apdu (m .message))) .0
+  pub write-inside : at + length b ≤ f .memory
+  write-inside = subst (Fit f b) (w .ends) (order-fits f s (apdu (m .message))) .0
 
   -- the slot record stays
   pub message-stays : sending s image m .slot ≡ s
   unfolding performed slotBy
-  message-stays = ap (λ (o : Outcome). o .slot) wrote
+  message-stays = ap (λ (o : Outcome). o .slot) write-does
 
   -- "I2C always answers 90 00"
   pub message-done : f .covered ≡ 0 → sending s image m .answer ≡ answer Transfer (m .message) Fault.Clear s done
   unfolding performed saidBy slotBy writtenWord
   message-done e =
-      ap (λ (o : Outcome). o .answer) wrote ∙ ap (answer Transfer (m .message) Fault.Clear s) (first _ _ (sym (or-taken _ (eq-eqb _ 0 e))))
+      ap (λ (o : Outcome). o .answer) write-does ∙ ap (answer Transfer (m .message) Fault.Clear s) (first _ _ (sym (or-taken _ (eq-eqb _ 0 e))))
 
   module _ (bits : 0 < f .covered) where
     abbrev after : List ℕ
@@ -100,14 +99,14 @@ module _ (chip : Chip) (s : Slot) (image : List ℕ) (m : Sent) (at : ℕ) (hold
 
     stored : sending s image m .image ≡ after
     unfolding performed imageBy
-    stored = ap (λ (o : Outcome). o .image) wrote ∙ written-stores f s image b (bitted chip bits .pageless) (s .page) at
+    stored = ap (λ (o : Outcome). o .image) write-does ∙ written-stores f s image b (bitted chip bits .pageless) (s .page) at
 
     -- what is before the protection bytes, and in the image
     before : at + length b ≤ f .bits
-    before = omega (arith, inside, laid chip .behind)
+    before = omega (arith, write-inside, laid chip .behind)
 
     within : at + length b ≤ length image
-    within = omega (arith, inside, laid chip .front, card .long)
+    within = omega (arith, write-inside, laid chip .front, write-card .long)
 
     long : length after ≡ length image
     long = length-storing (f .bits) (f .covered) image at b
@@ -132,7 +131,7 @@ module _ (chip : Chip) (s : Slot) (image : List ℕ) (m : Sent) (at : ℕ) (hold
     unfolding performed saidBy slotBy writtenWord
     message-told =
         let says : Bool → List ℕ = λ t. answer Transfer (m .message) Fault.Clear s (t ⇒ done ⁏ unequal) in
-        ap (λ (o : Outcome). o .answer) wrote
+        ap (λ (o : Outcome). o .answer) write-does
         ∙ ap (λ (l : List ℕ). says (reported f l at b)) (written-stores f s image b (bitted chip bits .pageless) (s .page) at)
         ∙ ap says (sym (or-passed (ne-eqb (f .covered) 0 (λ e. omega arith)) refl) ∙ ends)
         ∙ ap (wordTold s m at) (sym stored)
@@ -142,7 +141,7 @@ module _ (chip : Chip) (s : Slot) (image : List ℕ) (m : Sent) (at : ℕ) (hold
         → (left ≡ rawOf s) × Stored f image at b next × (holds ≡ over (wordTold s m at next) was)
     call-stored {next = next} {was = was} g =
         let e = raw-exchange-is s image (m .message) (m .room) in
-        let same : next ≡ sending s image m .image = g .image ∙ ap (λ (o : RawOutcome). o .image) e in (
+        let same : next ≡ sending s image m .image = call-image s image m g in (
           g .raw ∙ ap (λ (o : RawOutcome). o .raw) e ∙ ap rawOf message-stays,
           subst⁻¹ (Stored f image at b) same message-stored,
           g .buffer ∙ ap (λ (o : RawOutcome). over (o .answer) was) e ∙ ap (λ (a : List ℕ). over a was) (message-told ∙ ap (wordTold s m at) (sym same)),
@@ -151,11 +150,9 @@ module _ (chip : Chip) (s : Slot) (image : List ℕ) (m : Sent) (at : ℕ) (hold
     pub sitting-stored : (before : Held) (had : List ℕ) → before .slot ≡ s → take (before .size) had ≡ image → m .room ≡ leastRoom
         → {d : Done} {left was holds : List ℕ} → Leaves (outcomeOf Mark.Message (m .message) (before .slot) (take (before .size) had) leastRoom) d had left was holds
         → (d .held .slot ≡ s) × Stored f image at b (take (d .held .size) left) × (holds ≡ over (wordTold s m at (take (d .held .size) left)) was)
-    unfolding outcomeOf
     sitting-stored h had p q room {d} {left = left} {was = was} g =
-        let e : exchange (h .slot) (take (h .size) had) (m .message) leastRoom ≡ sending s image m =
-        ap₂ (λ (t : Slot) (i : List ℕ). exchange t i (m .message) leastRoom) p q ∙ ap (exchange s image (m .message)) (sym room) in
-        let same : take (d .held .size) left ≡ sending s image m .image = held-is g ∙ ap (λ (o : Outcome). o .image) e in (
+        let e = sitting-sends h had s image m p q room in
+        let same : take (d .held .size) left ≡ sending s image m .image = sitting-image h had s image m p q room g in (
           g .slot ∙ ap (λ (o : Outcome). o .slot) e ∙ message-stays,
           subst⁻¹ (Stored f image at b) same message-stored,
           g .buffer ∙ ap (λ (o : Outcome). over (o .answer) was) e ∙ ap (λ (a : List ℕ). over a was) (message-told ∙ ap (wordTold s m at) (sym same)),

@@ -1,15 +1,16 @@
--- Visits from the insertion on, of all four kinds with protection bits and of an I2C card, whose D0 meets what the theorems of `Stored` ask: the
--- rules are computed.
+-- Visits from the insertion on, of all four kinds with protection bits and of I2C cards, whose D0 meets what the theorems of `Stored` and `Paged` ask:
+-- the rules are computed.
 use mathlib.Core.Path.{_≡_, refl}
-use mathlib.Core.List.{List, [], _∷_}
-use Prim.Native.Nat.{ℕ}
+use mathlib.Core.List.{List, [], _∷_, _++_}
+use Prim.Native.Nat.{ℕ, _+_}
 use native.Mathlib.Omega.{arith}
-use lib.ListN.{replicate, set}
+use lib.ListN.{length, take, drop, replicate, set}
 use Rattle.words.specs.Bounds.{leastRoom}
 use Rattle.chips.specs.declared.Chip.{Chip}
-use Rattle.chips.specs.declared.Chip.the-variants.{I2c1, Sle4428, Sle4418, Sle4442, Sle4432}
+use Rattle.chips.specs.declared.Chip.the-variants.{I2c1, I2c1024, Sle4428, Sle4418, Sle4442, Sle4432}
 use Rattle.chips.specs.Kinds.{facts}
 use Rattle.slot.specs.Slots.{removed}
+use Rattle.pages.specs.Cuts.{Paged}
 use Rattle.orders.specs.Orders.{done}
 use Rattle.faults.specs.declared.Fault.{Fault}
 use Rattle.faults.specs.Faults.{Transfer}
@@ -17,12 +18,15 @@ use Rattle.frame.specs.Answers.{answer}
 use Rattle.reader.specs.Runs.{Sent, Run, sending}
 use Rattle.reader.specs.Rules.{rules}
 use Rattle.reader.specs.Heard.{heard}
-use Rattle.vectors.specs.Sessions.{lent, image4442, image4428, right4442, transfer}
+use Rattle.vectors.specs.Sessions.{lent, selectedSlot, image4442, image4428, right4442, transfer}
 use Rattle.vectors.specs.Plain.{image4418, image4432, command}
 use Rattle.promise.specs.Tries.{runFrom}
 use Rattle.promise.specs.Visits.{powerOn, select, right4428}
 use Rattle.promise.specs.Stored.{sentBy, Stored}
+use Rattle.promise.specs.Seats.{seated, seatImage}
 use Rattle.promise.proofs.Stored.{message-stored, message-done}
+use Rattle.promise.proofs.Seats.{seat-heard}
+use Rattle.promise.proofs.Paged.{message-paged, message-range}
 
 -- a card put in, powered, its type selected, and what else is sent before the D0
 abbrev came : Chip → List ℕ → List (List ℕ) → Run
@@ -90,3 +94,32 @@ toI2c = write 0x00 0x00 0x10 (replicate 16 0x05)
 pub doneI2c : sending (inI2c .slot) (inI2c .image) toI2c .answer ≡ answer Transfer (toI2c .message) Fault.Clear (inI2c .slot) done
 unfolding rules heard lent transfer
 doneI2c = message-done I2c1 (inI2c .slot) (inI2c .image) toI2c 0 refl (record { isHeard = refl; asked = refl; ends = refl }) refl
+
+-- and it leaves what the page rule says of a reader page that does not divide the chip page
+pub pagedI2c : Paged 16 8 (inI2c .image) 0 (sentBy toI2c) (sending (inI2c .slot) (inI2c .image) toI2c .image)
+unfolding rules heard lent transfer
+pagedI2c = message-paged I2c1 (inI2c .slot) (inI2c .image) toI2c 0 refl (record { isHeard = refl; asked = refl; ends = refl }) (omega arith)
+
+-- I2C 1024 kbit: four bytes over 0FFFFh/10000h by D0, and two from 10000h on by D1. Reader page 128 is at most the chip page
+abbrev overBorder : Sent
+overBorder = write 0xFF 0xFE 0x04 (0x01 ∷ 0x02 ∷ 0x03 ∷ 0x04 ∷ [])
+
+abbrev atTop : Sent
+atTop = record { message = command 0xD1 0x00 0x00 0x02 (0x05 ∷ 0x06 ∷ []); room = leastRoom }
+
+abbrev Wrote1024 : Sent → ℕ → Type 0
+Wrote1024 m at =
+    sending (seated I2c1024 128) (seatImage I2c1024) m .image
+    ≡ take at (seatImage I2c1024) ++ sentBy m ++ drop (at + length (sentBy m)) (seatImage I2c1024)
+
+pub wroteOver : Wrote1024 overBorder 0x0FFFE
+unfolding rules transfer selectedSlot
+wroteOver =
+    message-range I2c1024 (seated I2c1024 128) (seatImage I2c1024) overBorder 0x0FFFE refl
+    (record { isHeard = seat-heard I2c1024 (omega arith) 128 refl (overBorder .message) refl refl refl; asked = refl; ends = refl }) (omega arith) (omega arith)
+
+pub wroteTop : Wrote1024 atTop 0x10000
+unfolding rules transfer selectedSlot
+wroteTop =
+    message-range I2c1024 (seated I2c1024 128) (seatImage I2c1024) atTop 0x10000 refl
+    (record { isHeard = seat-heard I2c1024 (omega arith) 128 refl (atTop .message) refl refl refl; asked = refl; ends = refl }) (omega arith) (omega arith)

@@ -7,3 +7,4 @@ pub mod Guarded
 pub mod Stored
 pub mod Counted
 pub mod Screens
+pub mod Seats

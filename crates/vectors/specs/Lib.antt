@@ -2,3 +2,4 @@ pub mod Sessions
 pub mod Parameters
 pub mod Plain
 pub mod Stored
+pub mod Large

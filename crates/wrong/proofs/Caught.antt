@@ -9,18 +9,29 @@ use lib.ListN.{length, take, drop}
 use lib.Seq.{drop-append-seam}
 use borrow.Author.Tests.{eq-eqb, not-true}
 use Rattle.words.specs.Choice.{_⇒_⁏_}
-use Rattle.words.specs.Bytes.{over}
-use Rattle.words.proofs.Choices.{both, no-test, beq-self}
+use Rattle.words.specs.Bytes.{fourBytes, over}
+use Rattle.words.proofs.Choices.{both, and-true, no-test, beq-self}
 use Rattle.words.proofs.Lists.{front-over, same-of}
+use Rattle.chips.specs.declared.Chip.{Chip}
+use Rattle.chips.specs.declared.Facts.{Facts}
+use Rattle.chips.specs.Kinds.{facts}
 use Rattle.slot.specs.declared.Slot.{Slot}
 use Rattle.record.specs.Raw.{kindOf}
+use Rattle.faults.specs.declared.Fault.{Fault}
+use Rattle.faults.specs.Faults.{Request, Transfer, apdu}
+use Rattle.orders.specs.Orders.{Deed, commanded}
 use Rattle.frame.specs.declared.Reply.{Reply}
-use Rattle.frame.specs.Exchange.{Outcome, Gives}
+use Rattle.frame.specs.Answers.{header, answer}
+use Rattle.frame.specs.Exchange.{Outcome, answered, Gives}
+use Rattle.frame.proofs.AnswerLaws.{gives-is}
 use Rattle.reader.specs.Rules.{rules}
-use Rattle.wrong.specs.Wrong.{parts}
-use Rattle.wrong.specs.Caught.{likeSlot, likeOutcome, likeOutcomes, Witness, byMessage, byRun, byInsertion, byRemoval, caught, uncaught, tests, Apart}
+use Rattle.promise.specs.Seats.{seated, seatImage}
+use Rattle.wrong.specs.Wrong.{Doer, parts}
+use Rattle.wrong.specs.Caught.{likeSlot, likeOutcome, likeOutcomes, likeDeed, likeFacts, Witness, byMessage, byRun, byInsertion, byRemoval, byCommand, byRow}
+use Rattle.wrong.specs.Caught.{caught, uncaught, tests, Apart}
 use Rattle.wrong.specs.Caught.{Call, GivesEach, Refuted, EachRefuted}
 use Rattle.wrong.specs.Witnesses.{wrongReaders, witnesses}
+use Rattle.wrong.proofs.Seats.{Seated, seats-parts, seat-ours, seat-does}
 
 -- ---- what is equal is alike
 slot-self : (s : Slot) → likeSlot s s ≡ true
@@ -29,6 +40,14 @@ slot-self s =
     both (eq-eqb (kindOf (s .holds)) _ refl)
     (both (beq-self (s .active)) (both (eq-eqb (s .selected) _ refl) (both (eq-eqb (s .page) _ refl) (both (beq-self (s .«open»))
     (both (eq-eqb (s .set) _ refl) (both (eq-eqb (s .tries) _ refl) (eq-eqb (s .protected) _ refl)))))))
+
+facts-self : (f : Facts) → likeFacts f f ≡ true
+unfolding likeFacts
+facts-self f =
+    both (eq-eqb (f .kind) _ refl) (both (eq-eqb (f .size) _ refl) (both (eq-eqb (f .memory) _ refl) (both (eq-eqb (f .page) _ refl)
+    (both (eq-eqb (f .selects) _ refl) (both (beq-self (f .coded)) (both (eq-eqb (f .full) _ refl) (both (eq-eqb (f .counter) _ refl)
+    (both (eq-eqb (f .code) _ refl) (both (eq-eqb (f .digits) _ refl) (both (eq-eqb (f .bits) _ refl) (both (eq-eqb (f .covered) _ refl)
+    (both (eq-eqb (f .reach) _ refl) (eq-eqb (f .zeros) _ refl)))))))))))))
 
 pub like-slot : {s t : Slot} → s ≡ t → likeSlot s t ≡ true
 like-slot {s} e = subst (λ (t : Slot). likeSlot s t ≡ true) e (slot-self s)
@@ -60,6 +79,37 @@ met-each (o ∷ os) [] (c ∷ cs) g h = absurd h
 met-each (o ∷ os) (p ∷ ps) [] g h = absurd g
 met-each (o ∷ os) (p ∷ ps) (c ∷ cs) g h = both (met-alike o p (c .reply) (c .left) (c .was) (c .holds) (g .0) (h .0)) (met-each os ps cs (g .1) (h .1))
 
+-- ---- a command
+-- what is said is read back from the answer: it stands behind the ten bytes of the header
+said-of : (r : Request) (m : List ℕ) (f : Fault) (s : Slot) (said : List ℕ) → drop 10 (answer r m f s said) ≡ said
+unfolding answer header fourBytes
+said-of r m f s said = refl
+
+-- deeds that one reply, image and buffer tell of are alike
+deeds-alike : (m : List ℕ) (d e : Deed) (r : Reply) (left was holds : List ℕ) → Gives (answered Transfer m Fault.Clear d) r left was holds
+    → Gives (answered Transfer m Fault.Clear e) r left was holds → likeDeed d e ≡ true
+unfolding likeDeed
+deeds-alike m d e r left was holds g h =
+    let told : (x : Deed) → List ℕ = λ x. answer Transfer m Fault.Clear (x .slot) (x .said) in
+    let same-told : told d ≡ told e = answer-met (told d) (told e) was (sym (g .len) ∙ h .len) (sym (g .buffer) ∙ h .buffer) in
+    both (same-of (sym (said-of Transfer m Fault.Clear (d .slot) (d .said)) ∙ ap (drop 10) same-told ∙ said-of Transfer m Fault.Clear (e .slot) (e .said)))
+    (both (like-slot (sym (g .slot) ∙ h .slot)) (same-of (sym (g .image) ∙ h .image)))
+
+command-refuted : (w : Doer) (chip : Chip) (page : ℕ) (m : List ℕ) → Seated chip page m
+    → let s = seated chip page in let image = seatImage chip in
+    likeDeed (w (facts chip) s image (apdu m)) (commanded (facts chip) s image (apdu m)) ≡ false → Refuted (byCommand w chip page m)
+command-refuted w chip page m c e r left was holds g h =
+    let s = seated chip page in
+    let image = seatImage chip in
+    let ours = seat-ours chip page m c in
+    let theirs = seat-does chip page m c w in
+    no-test (deeds-alike m (w (facts chip) s image (apdu m)) (commanded (facts chip) s image (apdu m)) r left was holds
+    (gives-is (sym theirs) g) (gives-is (sym ours) h)) e
+
+-- ---- a row of the table of cards
+like-facts : {f g : Facts} → f ≡ g → likeFacts f g ≡ true
+like-facts {f} e = subst (λ (g : Facts). likeFacts f g ≡ true) e (facts-self f)
+
 -- ---- a reader that is caught is no code that meets the contract
 pub refuted : (w : Witness) → caught w ≡ true → Refuted w
 unfolding caught
@@ -67,6 +117,11 @@ refuted (byMessage w s image m room) e = no-code _ _ (not-true _ e)
 refuted (byRun w s image ms) e = λ cs g h. no-test (met-each _ _ cs g h) (not-true _ e)
 refuted (byInsertion w s kind image) e = no-code _ _ (not-true _ e)
 refuted (byRemoval w s) e = λ r p q. no-test (like-slot (sym p ∙ q)) (not-true _ e)
+refuted (byCommand w chip page m) e =
+    let t = and-true _ _ e in
+    let c = seats-parts chip page m (t .0) in
+    command-refuted w chip page m c (not-true _ (t .1))
+refuted (byRow w chip) e = λ r p q. no-test (like-facts (sym p ∙ q)) (not-true _ e)
 
 -- where no row is uncaught, every row is refuted
 pub none-left : (k : ℕ) (b : Bool) (later : ℕ) → (b ⇒ later ⁏ k + 1) ≡ 0 → (b ≡ true) × (later ≡ 0)
@@ -93,6 +148,6 @@ all-caught = refl
 pub all-refuted : EachRefuted wrongReaders
 all-refuted = each-refuted 0 wrongReaders all-caught
 
-pub row-count : length wrongReaders ≡ 1759
+pub row-count : length wrongReaders ≡ 1791
 unfolding rules wrongReaders
 row-count = refl

@@ -1,3 +1,4 @@
+pub mod Seats
 pub mod Caught
 pub mod Parts
 pub mod CaughtRecords

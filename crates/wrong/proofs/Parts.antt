@@ -36,7 +36,7 @@ use Rattle.reader.specs.Runs.{Sent, sending, run}
 use Rattle.promise.specs.Sequences.{sentWith}
 use Rattle.promise.proofs.Reached.{transfers-is, transfer-does}
 use Rattle.wrong.specs.Wrong.{Reader, rowed, oneByOne, cardIn, taking, refusing, vetting, faulting, early, fielding, upon, commandingOn, commanding, ordering, sooner, letting, barring}
-use Rattle.wrong.specs.Wrong.{tells, leaves, lets, doing, atWrong, atRight, insertsAs, insertsBy, uponInsert}
+use Rattle.wrong.specs.Wrong.{tells, leaves, lets, ins, placedBy, placeIn, twisted, doing, atWrong, atRight, insertsAs, insertsBy, uponInsert}
 use Rattle.wrong.specs.WrongStores.{storingBy, reportingBy, atUnequal}
 
 -- a reader gives what ours gives, at every input
@@ -174,16 +174,21 @@ pub ordering-ours : (orders : Facts → Slot → List ℕ → List ℕ → Order
 unfolding commanded
 ordering-ours orders e = commanding-ours _ (λ f s i d. ap (performed f s i (body d)) (e f s i d))
 
+-- with what INS means and its place as the rules find them
+pub placed-ours : (f : Facts) (s : Slot) (i d : List ℕ) → placedBy ins placeIn f s i d ≡ commanded f s i d
+unfolding commanded order
+placed-ours f s i d = refl
+
 pub doing-ours : (ins : ℕ) → Ours (doing ins (λ f s i d e. e))
-unfolding doing
+unfolding twisted
 doing-ours ins = commanding-ours _ (λ f s i d. same-choice _ refl)
 
 pub at-wrong-ours : Ours (atWrong (λ f s i d e. e))
-unfolding atWrong doing
+unfolding atWrong twisted
 at-wrong-ours = commanding-ours _ (λ f s i d. same-choice _ (same-choice _ refl))
 
 pub at-right-ours : Ours (atRight (λ f s i d e. e))
-unfolding atRight doing
+unfolding atRight twisted
 at-right-ours = commanding-ours _ (λ f s i d. same-choice _ (same-choice _ refl))
 
 -- ---- D0
@@ -217,7 +222,7 @@ unfolding commanded
 let-does f s i d h = ap (performed f s i (body d)) (let-writes f s d h)
 
 pub storing-ours : Ours (storingBy (λ f i at b. storing (f .bits) (f .covered) i at b))
-unfolding storingBy doing performed saidBy imageBy slotBy written
+unfolding storingBy twisted performed saidBy imageBy slotBy written
 storing-ours = commanding-ours _ (λ f s i d.
     let stored : List ℕ = storing (f .bits) (f .covered) i (p1p2 d) (body d) in
     either (λ (x : Deed). x ≡ commanded f s i d) _
@@ -228,14 +233,14 @@ storing-ours = commanding-ours _ (λ f s i d.
     (λ _. refl))
 
 pub reporting-ours : Ours (reportingBy (λ f i after at b. reported f after at b))
-unfolding reportingBy doing performed saidBy imageBy slotBy writtenWord
+unfolding reportingBy twisted performed saidBy imageBy slotBy writtenWord
 reporting-ours = commanding-ours _ (λ f s i d.
     either (λ (x : Deed). x ≡ commanded f s i d) _
     (λ h. subst⁻¹ (λ (e : Deed). tells (reported f (e .image) (p1p2 d) (body d) ⇒ done ⁏ unequal) e ≡ e) (let-does f s i d h) refl)
     (λ _. refl))
 
 pub at-unequal-ours : Ours (atUnequal (λ f s i d e. e))
-unfolding atUnequal doing
+unfolding atUnequal twisted
 at-unequal-ours = commanding-ours _ (λ f s i d. same-choice _ (same-choice _ refl))
 
 -- ---- steps

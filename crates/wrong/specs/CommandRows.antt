@@ -1,13 +1,14 @@
 -- The table of wrong readers, second part: steps 1 to 9, what the commands do, and the table of cards.
 use mathlib.Core.List.{List, [], _∷_, _++_}
 use lib.ListN.{replicate, set}
-use Rattle.chips.specs.declared.Chip.the-variants.{I2c1, I2c2, I2c4, I2c8, I2c16, I2c32, I2c64, I2c128, I2c256, Sle4428, Sle4418, Sle4442, Sle4432}
+use Rattle.chips.specs.declared.Chip.the-variants.{I2c1, I2c2, I2c4, I2c8, I2c16, I2c32, I2c64, I2c128, I2c256, I2c512, I2c1024, Sle4428, Sle4418, Sle4442, Sle4432}
 use Rattle.slot.specs.Slots.{removed, paged}
 use Rattle.steps.specs.declared.Status.{Status}
 use Rattle.vectors.specs.Sessions.{transfer, wrong4442, right4442}
 use Rattle.vectors.specs.Plain.{image4418, image4432}
 use Rattle.promise.specs.Visits.{select, wrong4428, right4428, readCounter}
-use Rattle.wrong.specs.Caught.{Witness, byInsertion}
+use Rattle.wrong.specs.Caught.{Witness, byInsertion, byCommand}
+use Rattle.wrong.specs.Wrong.{commanding}
 use Rattle.wrong.specs.Inputs.{bare, shut, wide, mem4442, mem4428, kept4442, memI2c, ask, sixteen, on, at4442}
 use Rattle.wrong.specs.WrongDowns as downs
 use Rattle.wrong.specs.WrongSteps as steps
@@ -222,30 +223,34 @@ kindRows =
     ∷ byInsertion (downs.dropsKind 7) removed 7 (replicate 8192 0xFF)
     ∷ byInsertion (downs.dropsKind 8) removed 8 (replicate 16384 0xFF)
     ∷ byInsertion (downs.dropsKind 9) removed 9 (replicate 32768 0xFF)
+    ∷ byInsertion (downs.dropsKind 10) removed 10 (replicate 65536 0xFF)
+    ∷ byInsertion (downs.dropsKind 11) removed 11 (replicate 131072 0xFF)
     ∷ byInsertion (downs.dropsKind 20) removed 20 mem4428
     ∷ byInsertion (downs.dropsKind 21) removed 21 image4418
     ∷ byInsertion (downs.dropsKind 30) removed 30 mem4442
     ∷ byInsertion (downs.dropsKind 31) removed 31 image4432
-    ∷ on (steps.otherSelect 1 0x02) (bare I2c1) (replicate 128 0xFF) (select 0x01)
-    ∷ on (steps.otherSelect 2 0x02) (bare I2c2) (replicate 256 0xFF) (select 0x01)
-    ∷ on (steps.otherSelect 3 0x02) (bare I2c4) (replicate 512 0xFF) (select 0x01)
-    ∷ on (steps.otherSelect 4 0x02) (bare I2c8) (replicate 1024 0xFF) (select 0x01)
-    ∷ on (steps.otherSelect 5 0x02) (bare I2c16) (replicate 2048 0xFF) (select 0x01)
-    ∷ on (steps.otherSelect 6 0x01) (bare I2c32) (replicate 4096 0xFF) (select 0x02)
-    ∷ on (steps.otherSelect 7 0x01) (bare I2c64) (replicate 8192 0xFF) (select 0x02)
-    ∷ on (steps.otherSelect 8 0x01) (bare I2c128) (replicate 16384 0xFF) (select 0x02)
-    ∷ on (steps.otherSelect 9 0x01) (bare I2c256) (replicate 32768 0xFF) (select 0x02)
-    ∷ on (steps.otherSelect 20 0x06) (bare Sle4428) mem4428 (select 0x05)
-    ∷ on (steps.otherSelect 21 0x06) (bare Sle4418) image4418 (select 0x05)
-    ∷ on (steps.otherSelect 30 0x05) (bare Sle4442) mem4442 (select 0x06)
-    ∷ on (steps.otherSelect 31 0x05) (bare Sle4432) image4432 (select 0x06)
-    ∷ on (commands.doublesChip 1) (paged 128 (shut I2c1)) (replicate 128 0xFF) (ask 0xD0 0x00 0x00 0x09 (replicate 8 0x00 ++ (0x01 ∷ [])))
-    ∷ on (commands.doublesChip 2) (paged 128 (shut I2c2)) (replicate 256 0xFF) (ask 0xD0 0x00 0x00 0x09 (replicate 8 0x00 ++ (0x01 ∷ [])))
-    ∷ on (commands.doublesChip 3) (paged 128 (shut I2c4)) (replicate 512 0xFF) (ask 0xD0 0x00 0x00 0x11 (replicate 16 0x00 ++ (0x01 ∷ [])))
-    ∷ on (commands.doublesChip 4) (paged 128 (shut I2c8)) (replicate 1024 0xFF) (ask 0xD0 0x00 0x00 0x11 (replicate 16 0x00 ++ (0x01 ∷ [])))
-    ∷ on (commands.doublesChip 5) (paged 128 (shut I2c16)) (replicate 2048 0xFF) (ask 0xD0 0x00 0x00 0x11 (replicate 16 0x00 ++ (0x01 ∷ [])))
-    ∷ on (commands.doublesChip 6) (paged 128 (shut I2c32)) (replicate 4096 0xFF) (ask 0xD0 0x00 0x00 0x21 (replicate 32 0x00 ++ (0x01 ∷ [])))
-    ∷ on (commands.doublesChip 7) (paged 128 (shut I2c64)) (replicate 8192 0xFF) (ask 0xD0 0x00 0x00 0x21 (replicate 32 0x00 ++ (0x01 ∷ [])))
-    ∷ on (commands.doublesChip 8) (paged 128 (shut I2c128)) (replicate 16384 0xFF) (ask 0xD0 0x00 0x00 0x41 (replicate 64 0x00 ++ (0x01 ∷ [])))
-    ∷ on (commands.doublesChip 9) (paged 128 (shut I2c256)) (replicate 32768 0xFF) (ask 0xD0 0x00 0x00 0x41 (replicate 64 0x00 ++ (0x01 ∷ [])))
+    ∷ byCommand (steps.otherSelect 1 0x02) I2c1 8 (select 0x01)
+    ∷ byCommand (steps.otherSelect 2 0x02) I2c2 8 (select 0x01)
+    ∷ byCommand (steps.otherSelect 3 0x02) I2c4 8 (select 0x01)
+    ∷ byCommand (steps.otherSelect 4 0x02) I2c8 8 (select 0x01)
+    ∷ byCommand (steps.otherSelect 5 0x02) I2c16 8 (select 0x01)
+    ∷ byCommand (steps.otherSelect 6 0x01) I2c32 8 (select 0x02)
+    ∷ byCommand (steps.otherSelect 7 0x01) I2c64 8 (select 0x02)
+    ∷ byCommand (steps.otherSelect 8 0x01) I2c128 8 (select 0x02)
+    ∷ byCommand (steps.otherSelect 9 0x01) I2c256 8 (select 0x02)
+    ∷ byCommand (steps.otherSelect 10 0x01) I2c512 8 (select 0x02)
+    ∷ byCommand (steps.otherSelect 11 0x01) I2c1024 8 (select 0x02)
+    ∷ on (commanding (steps.otherSelect 20 0x06)) (bare Sle4428) mem4428 (select 0x05)
+    ∷ on (commanding (steps.otherSelect 21 0x06)) (bare Sle4418) image4418 (select 0x05)
+    ∷ on (commanding (steps.otherSelect 30 0x05)) (bare Sle4442) mem4442 (select 0x06)
+    ∷ on (commanding (steps.otherSelect 31 0x05)) (bare Sle4432) image4432 (select 0x06)
+    ∷ byCommand (commands.doublesChip 1) I2c1 128 (ask 0xD0 0x00 0x00 0x09 (replicate 8 0x00 ++ (0x01 ∷ [])))
+    ∷ byCommand (commands.doublesChip 2) I2c2 128 (ask 0xD0 0x00 0x00 0x09 (replicate 8 0x00 ++ (0x01 ∷ [])))
+    ∷ byCommand (commands.doublesChip 3) I2c4 128 (ask 0xD0 0x00 0x00 0x11 (replicate 16 0x00 ++ (0x01 ∷ [])))
+    ∷ byCommand (commands.doublesChip 4) I2c8 128 (ask 0xD0 0x00 0x00 0x11 (replicate 16 0x00 ++ (0x01 ∷ [])))
+    ∷ byCommand (commands.doublesChip 5) I2c16 128 (ask 0xD0 0x00 0x00 0x11 (replicate 16 0x00 ++ (0x01 ∷ [])))
+    ∷ byCommand (commands.doublesChip 6) I2c32 128 (ask 0xD0 0x00 0x00 0x21 (replicate 32 0x00 ++ (0x01 ∷ [])))
+    ∷ byCommand (commands.doublesChip 7) I2c64 128 (ask 0xD0 0x00 0x00 0x21 (replicate 32 0x00 ++ (0x01 ∷ [])))
+    ∷ byCommand (commands.doublesChip 8) I2c128 128 (ask 0xD0 0x00 0x00 0x41 (replicate 64 0x00 ++ (0x01 ∷ [])))
+    ∷ byCommand (commands.doublesChip 9) I2c256 128 (ask 0xD0 0x00 0x00 0x41 (replicate 64 0x00 ++ (0x01 ∷ [])))
     ∷ []

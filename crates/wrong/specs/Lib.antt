@@ -10,6 +10,7 @@ pub mod WrongCommands
 pub mod WrongPlain
 pub mod WrongStores
 pub mod WrongCounts
+pub mod WrongLarge
 pub mod Inputs
 pub mod MessageRows
 pub mod CommandRows
@@ -17,6 +18,7 @@ pub mod ParamRows
 pub mod PlainRows
 pub mod StoreRows
 pub mod CountRows
+pub mod LargeRows
 pub mod Witnesses
 pub mod WrongRecords
 pub mod WrongPrinters

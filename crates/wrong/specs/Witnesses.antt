@@ -22,6 +22,7 @@ use Rattle.wrong.specs.ParamRows.{paramRows, fiRows, diRows, goodFiRows,
 use Rattle.wrong.specs.PlainRows.{plainRows, protectedRows}
 use Rattle.wrong.specs.StoreRows.{storeRows}
 use Rattle.wrong.specs.CountRows.{countRows}
+use Rattle.wrong.specs.LargeRows.{largeRows}
 use Rattle.wrong.specs.WrongFaults as faults
 use Rattle.wrong.specs.WrongSteps as steps
 
@@ -76,6 +77,7 @@ wrongReaders =
     ++ protectedRows
     ++ storeRows
     ++ countRows
+    ++ largeRows
     ++ slotRows
     ++ typeRows
     ++ selectRows

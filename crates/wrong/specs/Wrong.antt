@@ -3,9 +3,11 @@ use Prim.Native.Nat.{ℕ, _+_, _-_}
 use mathlib.Core.Bool.{Bool, true, false, not}
 use mathlib.Core.List.{List, [], _∷_, _++_}
 use lib.ListN.{length, take, drop, set}
+use lib.Dec.{ltb}
 use Rattle.words.specs.Choice.{_⇒_⁏_, _and_, _or_, _is_, _isnt_}
 use Rattle.words.specs.Bytes.{byte, same, fourBytes}
 use Rattle.codes.specs.Codes.{codeIn}
+use Rattle.chips.specs.declared.Chip.{Chip}
 use Rattle.chips.specs.declared.Known.{Known}
 use Rattle.chips.specs.declared.Known.the-variants.{Is, Unknown}
 use Rattle.chips.specs.declared.Facts.{Facts}
@@ -16,8 +18,9 @@ use Rattle.slot.specs.declared.Holds.the-variants.{Empty, Card}
 use Rattle.slot.specs.declared.Slot.{Slot}
 use Rattle.counts.specs.Counts.{putIn}
 use Rattle.steps.specs.declared.Status.{Status}
+use Rattle.steps.specs.declared.Ranged.{Ranged}
 use Rattle.steps.specs.declared.Order.{Order}
-use Rattle.steps.specs.Steps.{Ins, wordOf, insOf, p1p2, p3, body, meant, top, ordered, steps, order}
+use Rattle.steps.specs.Steps.{Ins, wordOf, insOf, p1p2, p3, body, meant, top, placeOf, ordered, steps, order}
 use Rattle.sound.specs.Sound.{sound}
 use Rattle.faults.specs.declared.Fault.{Fault}
 use Rattle.faults.specs.Faults.{Request, Transfer, typeByte, apdu, requestOf, ready, faultOf}
@@ -43,6 +46,13 @@ Inserter = Slot → ℕ → List ℕ → Outcome
 
 abbrev pub Remover : Type 0
 Remover = Slot → Slot
+
+-- of a command: the card's numbers, slot, image and pseudo-APDU; and of the table of cards
+abbrev pub Doer : Type 0
+Doer = Facts → Slot → List ℕ → List ℕ → Deed
+
+abbrev pub Teller : Type 0
+Teller = Chip → Facts
 
 -- message after message with one reader
 unfoldable pub oneByOne : Reader → Runner
@@ -147,13 +157,13 @@ upon type change s image m room =
     ⁏ o
 
 -- what a transfer without a fault does with its pseudo-APDU is `does`
-unfoldable pub commandingOn : Holds → (Facts → Slot → List ℕ → List ℕ → Deed) → Reader
+unfoldable pub commandingOn : Holds → Doer → Reader
 commandingOn Empty does s image m room = exchange s image m room
 commandingOn (Card chip) does s image m room =
     heard s image (sentWith m room) and transfers (requested (sentWith m room)) ⇒ answered Transfer m Fault.Clear (does (facts chip) s image (apdu m))
     ⁏ exchange s image m room
 
-abbrev pub commanding : (Facts → Slot → List ℕ → List ℕ → Deed) → Reader
+abbrev pub commanding : Doer → Reader
 commanding does s = commandingOn (s .holds) does s
 
 -- commands go by another row of numbers than the card's
@@ -180,8 +190,11 @@ placed counter code bits covered f = record {
 }
 
 -- the order that steps 1 to 9 end in is found by `orders`
+abbrev pub orderedBy : (Facts → Slot → List ℕ → List ℕ → Order) → Doer
+orderedBy orders f s image d = performed f s image (body d) (orders f s image d)
+
 abbrev pub ordering : (Facts → Slot → List ℕ → List ℕ → Order) → Reader
-ordering orders = commanding λ f s image d. performed f s image (body d) (orders f s image d)
+ordering orders = commanding (orderedBy orders)
 
 -- the status word of a refusal; none where the command is let through
 abbrev pub refusal : Order → List ℕ
@@ -209,6 +222,16 @@ ins f d = meant f (insOf (byte d 1))
 
 abbrev pub address : Facts → List ℕ → ℕ
 address f d = top f (insOf (byte d 1)) + p1p2 d
+
+-- what INS means is found by `means`, and its place by `finds`, of the card and the pseudo-APDU
+abbrev pub placedBy : (Facts → List ℕ → Ins) → (Facts → List ℕ → Ranged) → Doer
+placedBy means finds = orderedBy λ f s image d.
+    ltb (length d) 5 ⇒ Order.Refuse Status.Length
+    ⁏ byte d 0 isnt 0xFF ⇒ Order.Refuse Status.Class
+    ⁏ steps f s (length d) (p3 d) (byte d 5) (means f d) (finds f d)
+
+abbrev pub placeIn : Facts → List ℕ → Ranged
+placeIn f d = placeOf f (insOf (byte d 1)) (p1p2 d) (p3 d)
 
 -- A test on a command: of the card, the slot, the image and the pseudo-APDU.
 abbrev pub Test : Type 0
@@ -239,11 +262,14 @@ barring status test = ordering λ f s image d.
 abbrev pub Twist : Type 0
 Twist = Facts → Slot → List ℕ → List ℕ → Deed → Deed
 
-unfoldable pub doing : ℕ → Twist → Reader
-doing ins twist = commanding λ f s image d.
+unfoldable pub twisted : ℕ → Twist → Doer
+twisted ins twist f s image d =
     let e = commanded f s image d in
     byte d 1 is ins and lets (order f s d) ⇒ twist f s image d e
     ⁏ e
+
+abbrev pub doing : ℕ → Twist → Reader
+doing ins twist = commanding (twisted ins twist)
 
 -- and command 20 alone, where the code that reached the card is wrong, or right
 abbrev pub isRight : Facts → List ℕ → List ℕ → Bool
@@ -279,5 +305,5 @@ uponInsert change s kind image = let o = insertion s kind image in o .number is 
 
 -- all of these at once, for what is proved by computing them
 unfoldable pub parts : ℕ
-unfolding oneByOne taking refusing vetting faulting fielding upon commandingOn sooner letting barring doing atWrong atRight insertsAs uponInsert
+unfolding oneByOne taking refusing vetting faulting fielding upon commandingOn sooner letting barring twisted atWrong atRight insertsAs uponInsert
 parts = 0

@@ -15,7 +15,7 @@ use Rattle.slot.specs.declared.Slot.{Slot}
 use Rattle.slot.specs.Slots.{paged, powered, selecting, opened, closed}
 use Rattle.steps.specs.Steps.{p1p2, p3, body}
 use Rattle.orders.specs.Orders.{Deed, done}
-use Rattle.wrong.specs.Wrong.{recounts, Reader, rowed, placed, tells, stands, leaves, doing, atWrong, atRight, counterOf, counting}
+use Rattle.wrong.specs.Wrong.{recounts, Reader, Doer, commanding, twisted, rowed, placed, tells, stands, leaves, doing, atWrong, atRight, counterOf, counting}
 use Rattle.wrong.specs.WrongReaders.{mirrored}
 use Rattle.wrong.specs.WrongFaults.{oneMore}
 
@@ -166,8 +166,11 @@ abbrev pub changesFirst : Reader
 changesFirst = doing 0xD2 λ f s image d e. leaves (sets image (f .code) (take 1 (body d))) e
 
 -- ---- D0 on I2C
+abbrev pub pagedBy : (Facts → Slot → List ℕ → ℕ → List ℕ → List ℕ) → Doer
+pagedBy write = twisted 0xD0 λ f s image d e. f .page is 0 ⇒ e ⁏ leaves (write f s image (p1p2 d) (body d)) e
+
 abbrev pub paging : (Facts → Slot → List ℕ → ℕ → List ℕ → List ℕ) → Reader
-paging write = doing 0xD0 λ f s image d e. f .page is 0 ⇒ e ⁏ leaves (write f s image (p1p2 d) (body d)) e
+paging write = commanding (pagedBy write)
 
 -- goes straight on past the chip page at D0
 abbrev pub goesStraight : Reader
@@ -196,8 +199,8 @@ abbrev pub pageOf8 : Reader
 pageOf8 = paging λ f s image at vs. pageWrite (s .page) 8 image at at vs
 
 -- takes this kind's chip page for twice as large
-abbrev pub doublesChip : ℕ → Reader
-doublesChip k = paging λ f s image at vs. pageWrite (s .page) (f .kind is k ⇒ 2 * f .page ⁏ f .page) image at at vs
+abbrev pub doublesChip : ℕ → Doer
+doublesChip k = pagedBy λ f s image at vs. pageWrite (s .page) (f .kind is k ⇒ 2 * f .page ⁏ f .page) image at at vs
 
 -- ---- 20: a wrong code
 -- burns no bit for a wrong code

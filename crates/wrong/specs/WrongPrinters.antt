@@ -4,14 +4,15 @@ use mathlib.Core.Bool.{Bool, true, false, not}
 use mathlib.Core.List.{List, [], _∷_, _++_, map}
 use lib.ListN.{length, take, drop, set, replicate}
 use lib.Dec.{ltb, leb}
-use Rattle.words.specs.Choice.{_⇒_⁏_, _and_, _is_}
+use Rattle.words.specs.Choice.{_⇒_⁏_, _and_, _or_, _is_}
 use Rattle.words.specs.Bytes.{byte, same}
 use Rattle.records.specs.declared.Mark.{Mark}
 use Rattle.records.specs.declared.Mark.the-variants.{Insert, Remove, Message}
 use Rattle.records.specs.declared.Record.{Record}
 use Rattle.records.specs.declared.Record.the-variants.{Whole, Cut, Bad, End}
 use Rattle.records.specs.Records.{wordAt, lengthAt, recordAt}
-use Rattle.chips.specs.declared.Chip.the-variants.{I2c1}
+use Rattle.chips.specs.declared.Chip.{Chip}
+use Rattle.chips.specs.declared.Chip.the-variants.{I2c1, I2c512, I2c1024}
 use Rattle.lines.specs.Text.{text}
 use Rattle.lines.specs.Lines.{word, ending, line}
 use Rattle.slot.specs.declared.Slot.{Slot}
@@ -194,6 +195,27 @@ imageForgotten mark body s image =
     let o = comesOf mark body s image in
     record { number = o .number; answer = o .answer; slot = o .slot; image = length image is 0 ⇒ o .image ⁏ image }
 
+-- puts in a card of this kind, whatever its image
+unfoldable pub putsLarge : ℕ → Chip → Mark → List ℕ → Slot → List ℕ → Outcome
+putsLarge k chip Insert body s image =
+    let o = comesOf Insert body s image in
+    byte body 0 is k and o .number is 3 ⇒ record { number = 0; answer = []; slot = inserted chip 0 0; image = drop 1 body }
+    ⁏ o
+putsLarge k chip Remove body s image = comesOf Remove body s image
+putsLarge k chip Message body s image = comesOf Message body s image
+
+-- asks for the kind first: 3 for kinds 10 and 11 while a card is in
+unfoldable pub largeFirst : Mark → List ℕ → Slot → List ℕ → Outcome
+largeFirst Insert body s image =
+    let o = comesOf Insert body s image in
+    record { number = byte body 0 is 10 or byte body 0 is 11 ⇒ 3 ⁏ o .number; answer = o .answer; slot = o .slot; image = o .image }
+largeFirst Remove body s image = comesOf Remove body s image
+largeFirst Message body s image = comesOf Message body s image
+
+-- an insert of kind 10 or 11 is bad
+unfoldable pub largeBad : List ℕ → Record
+largeBad left = wordAt left 0 is 0x4349 and (byte left 4 is 10 or byte left 4 is 11) ⇒ Bad ⁏ firstRecord left
+
 -- goes on behind a bad record
 unfoldable pub pastBad : Printing → Record → Printing
 pastBad after (Whole mark start end) left s image = next after (Whole mark start end) left s image
@@ -248,6 +270,10 @@ wrongPrinters =
     ∷ (doneBy kindInImage on insert 1 (image1 0) ++ powerRecord ++ selectRecord ++ read3)
     ∷ (doneBy slotForgotten on insert 1 (image1 0) ++ status)
     ∷ (doneBy imageForgotten on insert 1 (image1 0) ++ powerRecord ++ selectRecord ++ write3 ++ read3)
+    ∷ (doneBy (putsLarge 10 I2c512) on insert 10 (image1 0))
+    ∷ (doneBy (putsLarge 11 I2c1024) on insert 11 (image1 0))
+    ∷ (doneBy largeFirst on insert 1 (image1 0) ++ insert 10 (image1 0))
+    ∷ (readingBy largeBad on insert 11 (image1 0))
     -- starts with the card that the last session left
     ∷ ((λ (input : List ℕ). by rightParts (length input + 1) input (inserted I2c1 0 0) (image1 0)) on status)
     ∷ ((λ (input : List ℕ). goesOn (length input + 1) input removed []) on recorded 0x43 0x4F (0 ∷ []) ++ remove)
@@ -260,5 +286,5 @@ printFaults = 0
 
 unfoldable pub morePrintFaults : ℕ
 unfolding going by printer printerCaught printerUncaught boundLess cutHeaderEnds cutIsWhole takesCutBody endIsCut bodyOneMore messageInserts
-    asksForCard keepsRefused kindInImage slotForgotten imageForgotten pastBad goesOn
+    asksForCard keepsRefused kindInImage slotForgotten imageForgotten putsLarge largeFirst largeBad pastBad goesOn
 morePrintFaults = 0

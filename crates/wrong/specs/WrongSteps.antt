@@ -13,7 +13,7 @@ use Rattle.steps.specs.declared.Status.{Status}
 use Rattle.steps.specs.declared.Order.{Order}
 use Rattle.steps.specs.Steps.{Write, p1p2, p3, body, known, has, following, lengthFits, placeFits, valueFits, needsOpen, order}
 use Rattle.orders.specs.Orders.{done, commanded}
-use Rattle.wrong.specs.Wrong.{Reader, Test, ins, address, tells, stands, leaves, commanding, ordering, refuses, lets, sooner, letting, barring, counterOf, counting}
+use Rattle.wrong.specs.Wrong.{Reader, Doer, Test, ins, address, tells, stands, leaves, commanding, orderedBy, ordering, refuses, lets, sooner, letting, barring, counterOf, counting}
 
 -- the address and P3 together
 abbrev pub upTo : Facts → List ℕ → ℕ
@@ -219,8 +219,8 @@ selectsNamed = commanding λ f s image d.
     ⁏ commanded f s image d
 
 -- selects this kind by another type and not by its own
-abbrev pub otherSelect : ℕ → ℕ → Reader
-otherSelect k type = ordering λ f s image d.
+abbrev pub otherSelect : ℕ → ℕ → Doer
+otherSelect k type = orderedBy λ f s image d.
     let named = byte d 5 is type ⇒ f .selects ⁏ byte d 5 is f .selects ⇒ type ⁏ byte d 5 in
     order f s (f .kind is k and byte d 1 is 0xA4 ⇒ set d 5 named ⁏ d)
 

@@ -39,20 +39,24 @@ unfolding insOf _⇒_⁏_
 returns c =
     let a = c .before .before .args in
     let f = facts (a .chip) in
-    let e : a .ins ≡ 0xB1 = c .before .match .keys1 in
-    (ap insOf (c .raised .ensures .0) ∙ choice-ap insOf (seventeen f) 0xB0 (a .ins)
-    ∙ ap (λ (b : ℕ). seventeen f ⇒ insOf 0xB0 ⁏ insOf b) e ∙ sym (ap (λ (b : ℕ). meant f (insOf b)) e),
-    c .raised .ensures .1 ∙ sym (ap (λ (b : ℕ). top f (insOf b)) e), c .raised .ensures .2)
+    let e : a .ins ≡ 0xB1 = c .before .match .keys1 in (
+      ap insOf (c .raised .ensures .0) ∙ choice-ap insOf (seventeen f) 0xB0 (a .ins)
+          ∙ ap (λ (b : ℕ). seventeen f ⇒ insOf 0xB0 ⁏ insOf b) e ∙ sym (ap (λ (b : ℕ). meant f (insOf b)) e),
+      c .raised .ensures .1 ∙ sym (ap (λ (b : ℕ). top f (insOf b)) e),
+      c .raised .ensures .2,
+    )
 
 returns-2 : tie.Need-returns-2
 unfolding insOf _⇒_⁏_
 returns-2 c =
     let a = c .before .before .args in
     let f = facts (a .chip) in
-    let e : a .ins ≡ 0xD1 = c .before .match .keys2 in
-    (ap insOf (c .raised2 .ensures .0) ∙ choice-ap insOf (seventeen f) 0xD0 (a .ins)
-    ∙ ap (λ (b : ℕ). seventeen f ⇒ insOf 0xD0 ⁏ insOf b) e ∙ sym (ap (λ (b : ℕ). meant f (insOf b)) e),
-    c .raised2 .ensures .1 ∙ sym (ap (λ (b : ℕ). top f (insOf b)) e), c .raised2 .ensures .2)
+    let e : a .ins ≡ 0xD1 = c .before .match .keys2 in (
+      ap insOf (c .raised2 .ensures .0) ∙ choice-ap insOf (seventeen f) 0xD0 (a .ins)
+          ∙ ap (λ (b : ℕ). seventeen f ⇒ insOf 0xD0 ⁏ insOf b) e ∙ sym (ap (λ (b : ℕ). meant f (insOf b)) e),
+      c .raised2 .ensures .1 ∙ sym (ap (λ (b : ℕ). top f (insOf b)) e),
+      c .raised2 .ensures .2,
+    )
 
 returns-3 : tie.Need-returns-3
 returns-3 c =
