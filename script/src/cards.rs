@@ -20,12 +20,25 @@ pub struct Code {
     pub bytes: usize,
 }
 
+impl Kind {
+    /// Whether a record of the session program can hold its image beside the kind byte. The session program takes a kind
+    /// that does not fit as unknown.
+    pub fn fits_a_record(&self) -> bool {
+        self.image <= 32_768
+    }
+
+    /// Whether its addresses have 17 bits: B0 and D0 carry the top bit 0, B1 and D1 carry it 1.
+    pub fn has_top_bit(&self) -> bool {
+        self.memory > 65_536
+    }
+}
+
 /// An I2C card is memory alone.
 const fn i2c(name: &'static str, told: &'static str, number: u8, bytes: usize, own_type: u8) -> Kind {
     Kind { name, told, number, image: bytes, memory: bytes, own_type, protectable: 0, code: None }
 }
 
-static KINDS: [Kind; 13] = [
+static KINDS: [Kind; 15] = [
     i2c("i2c1", "I2C of 1 kbit", 1, 128, 0x01),
     i2c("i2c2", "I2C of 2 kbit", 2, 256, 0x01),
     i2c("i2c4", "I2C of 4 kbit", 3, 512, 0x01),
@@ -35,6 +48,8 @@ static KINDS: [Kind; 13] = [
     i2c("i2c64", "I2C of 64 kbit", 7, 8192, 0x02),
     i2c("i2c128", "I2C of 128 kbit", 8, 16384, 0x02),
     i2c("i2c256", "I2C of 256 kbit", 9, 32768, 0x02),
+    i2c("i2c512", "I2C of 512 kbit", 10, 65536, 0x02),
+    i2c("i2c1024", "I2C of 1024 kbit", 11, 131072, 0x02),
     Kind {
         name: "sle4428",
         told: "SLE4428",

@@ -1,8 +1,10 @@
-//! The script tool: the language of a script, a conversation with the session program, and records
-//! and answers in words. docs/SCRIPTS.md has the language.
+//! The script tool: the language of a script, a conversation with the session program or the trial
+//! program, and records and answers in words. docs/SCRIPTS.md has the language.
 
 pub mod cards;
+pub mod hex;
 pub mod parameters;
 pub mod parse;
 pub mod talk;
 pub mod tell;
+pub mod trial;

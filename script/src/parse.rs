@@ -1,6 +1,9 @@
 //! The script language: lines to records and expectations. docs/SCRIPTS.md has it in full.
 
 use crate::cards::{self, Kind};
+use crate::hex;
+use crate::talk::Over;
+use crate::trial;
 
 /// A fault in a script line.
 pub struct Fault {
@@ -41,9 +44,19 @@ pub enum Expected {
     Done,
     Bad,
     Line(String),
+    /// The addresses of all image bytes that changed, rising.
+    Changed(Vec<usize>),
 }
 
 impl Record {
+    /// The message, where it is one.
+    pub fn message(&self) -> &[u8] {
+        match self {
+            Record::Message(message) => message,
+            _ => &[],
+        }
+    }
+
     /// The record as it stands on the session program's input.
     pub fn bytes(&self) -> Vec<u8> {
         let (mark, body): ([u8; 2], &[u8]) = match self {
@@ -59,9 +72,9 @@ impl Record {
     }
 }
 
-/// The steps of a script, or its first fault.
-pub fn script(text: &str) -> Result<Vec<Step>, Fault> {
-    let mut parser = Parser { seq: 0, slot: 0, own_type: None, ended: false, recorded: false };
+/// The steps of a script for the program that it is played over, or its first fault.
+pub fn script(over: Over, text: &str) -> Result<Vec<Step>, Fault> {
+    let mut parser = Parser { over, seq: 0, slot: 0, own_type: None, ended: false, recorded: false };
     let mut steps = Vec::new();
     for (number, whole) in text.lines().enumerate() {
         let line = number + 1;
@@ -78,7 +91,7 @@ pub fn script(text: &str) -> Result<Vec<Step>, Fault> {
             continue;
         }
         if words[0] == "expect" {
-            let expected = expected(&words[1..], &source).map_err(fault)?;
+            let expected = expected(over, &words[1..], &source).map_err(fault)?;
             if !parser.recorded {
                 return Err(fault("there is no answer to expect anything of yet".to_string()));
             }
@@ -91,6 +104,7 @@ pub fn script(text: &str) -> Result<Vec<Step>, Fault> {
 }
 
 struct Parser {
+    over: Over,
     /// bSeq and bSlot of the next message.
     seq: u8,
     slot: u8,
@@ -147,8 +161,11 @@ impl Parser {
                 let data = all_bytes(rest)?;
                 self.message(0x6f, &data)?
             }
-            "raw" => Record::Message(at_most(all_bytes(rest)?)?),
+            "raw" => self.whole_message(all_bytes(rest)?)?,
             "bytes" => {
+                if self.over == Over::Trial {
+                    return Err("'bytes' is for the session program: the trial program is given calls".to_string());
+                }
                 self.ended = true;
                 Record::Loose(all_bytes(rest)?)
             }
@@ -185,11 +202,24 @@ impl Parser {
         message.extend_from_slice(data);
         self.slot = 0;
         self.seq = self.seq.wrapping_add(1);
-        Ok(Record::Message(at_most(message)?))
+        self.whole_message(message)
+    }
+
+    fn whole_message(&self, message: Vec<u8>) -> Result<Record, String> {
+        match self.over {
+            Over::Session => at_most("a record holds", 65_535, &message)?,
+            Over::Trial => at_most("the trial program takes a message of", trial::MOST_MESSAGE, &message)?,
+        }
+        Ok(Record::Message(message))
     }
 
     fn insert(&mut self, words: &[&str]) -> Result<Record, String> {
         let (kind, rest) = match words {
+            ["nothing"] if self.over == Over::Trial => {
+                return Err(
+                    "'insert nothing' is a record for the session program: an insertion call has a kind".to_string()
+                )
+            }
             ["nothing"] => return Ok(Record::Insert { told: "an empty body".to_string(), body: Vec::new() }),
             [] => return Err("insert what? A card as sle4442, or 'nothing'".to_string()),
             ["kind", number, rest @ ..] => {
@@ -197,20 +227,42 @@ impl Parser {
                 (number, rest)
             }
             [name, rest @ ..] => {
-                let kind = cards::named(name).ok_or_else(|| format!("'{}' is no card", name))?;
-                (kind.number, rest)
+                let card = cards::named(name).ok_or_else(|| format!("'{}' is no card", name))?;
+                if !self.takes(card) {
+                    return Err(format!(
+                        "'{}' is played with './play --trial': the session program takes kind {} as unknown, since a record's \
+                         body holds at most 32,769 bytes, a kind byte and an image of 32,768",
+                        name, card.number
+                    ));
+                }
+                (card.number, rest)
             }
         };
         let known = cards::numbered(kind);
         let (told, image) = match known {
-            Some(card) => {
+            Some(card) if self.takes(card) => {
                 self.own_type = Some(card.own_type);
                 (format!("{}, kind {}", card.told, kind), card_image(card, rest)?)
             }
-            None => (format!("kind {}, which is unknown", kind), unknown_image(rest)?),
+            _ => {
+                let why = if known.is_some() { "the session program takes as" } else { "is" };
+                let told = format!("kind {}, which {} unknown", kind, why);
+                let image = unknown_image(&told, rest)?;
+                (told, image)
+            }
         };
         let told = format!("{}, image of {} bytes", told, image.len());
-        Ok(Record::Insert { told, body: at_most([&[kind], &image[..]].concat())? })
+        let body = [&[kind], &image[..]].concat();
+        match self.over {
+            Over::Session => at_most("a record holds", 65_535, &body)?,
+            Over::Trial => at_most("the trial program takes an image of", trial::MOST_IMAGE, &image)?,
+        }
+        Ok(Record::Insert { told, body })
+    }
+
+    /// Whether the program that is talked to knows this card.
+    fn takes(&self, card: &Kind) -> bool {
+        self.over == Over::Trial || card.fits_a_record()
     }
 }
 
@@ -276,20 +328,34 @@ fn card_image(card: &Kind, mut words: &[&str]) -> Result<Vec<u8>, String> {
     Ok(image)
 }
 
-fn unknown_image(words: &[&str]) -> Result<Vec<u8>, String> {
+fn unknown_image(told: &str, words: &[&str]) -> Result<Vec<u8>, String> {
     match words {
         [] => Ok(Vec::new()),
         ["image", rest @ ..] => all_bytes(rest),
-        _ => Err("an unknown kind has the option 'image' alone".to_string()),
+        _ => Err(format!("{}, has the option 'image' alone", told)),
     }
 }
 
-fn expected(words: &[&str], source: &str) -> Result<Expected, String> {
+fn expected(over: Over, words: &[&str], source: &str) -> Result<Expected, String> {
     match words {
         [] => Err("expect what?".to_string()),
         ["nothing"] => Ok(Expected::Nothing),
         ["done"] => Ok(Expected::Done),
+        ["bad"] if over == Over::Trial => {
+            Err("'expect bad' is for the session program: what a script calls for is never bad".to_string())
+        }
         ["bad"] => Ok(Expected::Bad),
+        ["changed", ..] if over == Over::Session => {
+            Err("'expect changed' is for './play --trial': the session program tells nothing of the image".to_string())
+        }
+        ["changed", "nothing"] => Ok(Expected::Changed(Vec::new())),
+        ["changed", list] => {
+            let mut places = addresses(list)?;
+            places.sort_unstable();
+            places.dedup();
+            Ok(Expected::Changed(places))
+        }
+        ["changed", ..] => Err("it is 'expect changed' with a list of addresses, or with 'nothing'".to_string()),
         ["active"] => Ok(Expected::State(0)),
         ["inactive"] => Ok(Expected::State(1)),
         ["no", "card"] => Ok(Expected::State(2)),
@@ -312,6 +378,9 @@ fn expected(words: &[&str], source: &str) -> Result<Expected, String> {
 
 // ---- bytes and numbers
 
+/// More bytes than this are a slip of the pen: no record and no image has so many.
+const MOST: usize = 200_000;
+
 /// Two hex digits a byte, any number of bytes a word, `XX*N` for N times XX.
 fn hex_word(word: &str) -> Option<Vec<u8>> {
     let (digits, times) = match word.split_once('*') {
@@ -319,12 +388,10 @@ fn hex_word(word: &str) -> Option<Vec<u8>> {
         Some(_) => return None,
         None => (word, 1),
     };
-    if digits.is_empty() || digits.len() % 2 != 0 || times > 70_000 || !digits.bytes().all(|b| b.is_ascii_hexdigit()) {
+    if times > MOST {
         return None;
     }
-    let one: Option<Vec<u8>> =
-        (0..digits.len() / 2).map(|k| u8::from_str_radix(&digits[2 * k..2 * k + 2], 16).ok()).collect();
-    one.map(|bytes| bytes.repeat(times))
+    hex::bytes(digits).filter(|bytes| !bytes.is_empty()).map(|bytes| bytes.repeat(times))
 }
 
 fn all_bytes(words: &[&str]) -> Result<Vec<u8>, String> {
@@ -370,11 +437,10 @@ fn next_bytes(words: &mut &[&str], option: &str) -> Result<Vec<u8>, String> {
     bytes
 }
 
+/// One to five hex digits.
 fn address(word: &str) -> Result<usize, String> {
-    if word.is_empty() || word.len() > 4 {
-        return Err(format!("'{}' is no address in hex", word));
-    }
-    usize::from_str_radix(word, 16).map_err(|_| format!("'{}' is no address in hex", word))
+    let place = usize::from_str_radix(word, 16).ok().filter(|_| word.len() <= 5 && !word.starts_with('+'));
+    place.ok_or_else(|| format!("'{}' is no address in hex", word))
 }
 
 /// `0000..0003,0007`: both ends of a range belong to it.
@@ -382,7 +448,13 @@ fn addresses(word: &str) -> Result<Vec<usize>, String> {
     let mut all = Vec::new();
     for part in word.split(',') {
         match part.split_once("..") {
-            Some((from, to)) => all.extend(address(from)?..=address(to)?),
+            Some((from, to)) => {
+                let range = address(from)?..=address(to)?;
+                if range.is_empty() {
+                    return Err(format!("'{}' ends before it begins", part));
+                }
+                all.extend(range);
+            }
             None => all.push(address(part)?),
         }
     }
@@ -391,7 +463,7 @@ fn addresses(word: &str) -> Result<Vec<usize>, String> {
 
 fn number(word: &str) -> Result<usize, String> {
     match word.parse::<usize>() {
-        Ok(number) if number <= 70_000 => Ok(number),
+        Ok(number) if number <= MOST => Ok(number),
         _ => Err(format!("'{}' is no number of bytes", word)),
     }
 }
@@ -403,11 +475,11 @@ fn no_more(words: &[&str]) -> Result<(), String> {
     }
 }
 
-fn at_most(body: Vec<u8>) -> Result<Vec<u8>, String> {
-    if body.len() > 65_535 {
-        return Err(format!("a record holds at most 65535 bytes, and these are {}", body.len()));
+fn at_most(what: &str, most: usize, bytes: &[u8]) -> Result<(), String> {
+    if bytes.len() > most {
+        return Err(format!("{} at most {} bytes, and these are {}", what, most, bytes.len()));
     }
-    Ok(body)
+    Ok(())
 }
 
 #[cfg(test)]

@@ -1,5 +1,7 @@
-//! Messages and answers taken apart, in words.
+//! Messages and answers taken apart, in words. What a command means, and how wide an address is, depends on the kind of the
+//! card that is in; 0 is any that has no top address bit.
 
+use crate::cards;
 use crate::parameters;
 
 /// Bytes as a reader of the paper writes them; long rows are cut.
@@ -14,7 +16,7 @@ pub fn row(bytes: &[u8]) -> String {
 }
 
 /// What a message is: its type, its header where there is something to say, and its command.
-pub fn message(message: &[u8]) -> String {
+pub fn message(kind: u8, message: &[u8]) -> String {
     if message.len() < 10 {
         return format!("a message of only {} bytes: {}", message.len(), row(message));
     }
@@ -40,7 +42,7 @@ pub fn message(message: &[u8]) -> String {
     }
     match message[0] {
         0x61 => text.push_str(&format!(", protocol number {:02X}, {}", message[7], counted(&message[10..]))),
-        0x6f => text.push_str(&format!(", {}", command(&message[10..]))),
+        0x6f => text.push_str(&format!(", {}", command(kind, &message[10..]))),
         _ => {}
     }
     text
@@ -59,21 +61,38 @@ fn counted(data: &[u8]) -> String {
     format!("{} data bytes {}", data.len(), row(data)).trim_end().to_string()
 }
 
-fn command(apdu: &[u8]) -> String {
+/// Whether addresses of this kind have 17 bits.
+fn has_top_bit(kind: u8) -> bool {
+    cards::numbered(kind).map_or(false, |card| card.has_top_bit())
+}
+
+/// An address of a card of this kind.
+fn address(kind: u8, place: usize) -> String {
+    if has_top_bit(kind) {
+        format!("{:05X}", place)
+    } else {
+        format!("{:04X}", place)
+    }
+}
+
+fn command(kind: u8, apdu: &[u8]) -> String {
     if apdu.len() < 5 {
         return counted(apdu);
     }
-    let (place, p3, data) = (u16::from_be_bytes([apdu[2], apdu[3]]), apdu[4], &apdu[5..]);
+    let (place, p3, data) = (usize::from(u16::from_be_bytes([apdu[2], apdu[3]])), apdu[4], &apdu[5..]);
     if apdu[0] != 0xff {
         return format!("no command: {}", row(apdu));
     }
+    let top = 0x10000 + place;
     match apdu[1] {
         0xa4 => format!("A4 select type {}", row(data)),
         0x01 => format!("01 set the reader page, code {}", row(data)),
-        0xb0 => format!("B0 read {} from {:04X}", bytes_of(p3), place),
+        0xb0 => format!("B0 read {} from {}", bytes_of(p3.into()), address(kind, place)),
+        0xb1 if has_top_bit(kind) => format!("B1 read {} from {}", bytes_of(p3.into()), address(kind, top)),
         0xb1 => "B1 read the counter".to_string(),
-        0xb2 => format!("B2 read {} of protection bits from {:04X}", bytes_of(p3), place),
-        0xd0 => format!("D0 write {} at {:04X}", row(data), place),
+        0xb2 => format!("B2 read {} of protection bits from {:04X}", bytes_of(p3.into()), place),
+        0xd0 => format!("D0 write {} at {}", row(data), address(kind, place)),
+        0xd1 if has_top_bit(kind) => format!("D1 write {} at {}", row(data), address(kind, top)),
         0xd1 => format!("D1 protect {} at {:04X}", row(data), place),
         0x20 => format!("20 present code {}", row(data)),
         0xd2 => format!("D2 change the code to {}", row(data)),
@@ -81,7 +100,7 @@ fn command(apdu: &[u8]) -> String {
     }
 }
 
-fn bytes_of(count: u8) -> String {
+fn bytes_of(count: usize) -> String {
     if count == 1 {
         "1 byte".to_string()
     } else {
@@ -102,7 +121,7 @@ pub fn refusal(number: u8) -> &'static str {
 }
 
 /// An answer in its parts, a name and a text each. The message says what the data mean.
-pub fn answer(message: &[u8], answer: &[u8]) -> Vec<(&'static str, String)> {
+pub fn answer(kind: u8, message: &[u8], answer: &[u8]) -> Vec<(&'static str, String)> {
     if answer.len() < 10 {
         return vec![("answer", format!("only {} bytes: {}", answer.len(), row(answer)))];
     }
@@ -117,7 +136,7 @@ pub fn answer(message: &[u8], answer: &[u8]) -> Vec<(&'static str, String)> {
     } else if message.first() == Some(&0x6f) && !failed && data.len() >= 2 {
         let (data, word) = data.split_at(data.len() - 2);
         if !data.is_empty() {
-            parts.push(("data", told_data(apdu, data)));
+            parts.push(("data", told_data(kind, apdu, data)));
         }
         parts.push(("word", format!("{} {}", row(word), told_word(apdu, word))));
     } else if !data.is_empty() {
@@ -181,19 +200,15 @@ fn error_name(answer: &[u8]) -> &'static str {
     }
 }
 
-fn told_data(apdu: &[u8], data: &[u8]) -> String {
+fn told_data(kind: u8, apdu: &[u8], data: &[u8]) -> String {
     match apdu {
-        [_, 0xb1, ..] => format!("{}, counter {:02X}: {}", row(data), data[0], tries(data[0])),
+        [_, 0xb1, ..] if !has_top_bit(kind) => {
+            format!("{}, counter {:02X}: {}", row(data), data[0], tries(data[0]))
+        }
         [_, 0xb2, high, low, ..] => {
             let from = usize::from(u16::from_be_bytes([*high, *low]));
-            let mut runs: Vec<(usize, usize)> = Vec::new();
-            for k in (0..8 * data.len()).filter(|k| data[k / 8] & (1 << (k % 8)) == 0) {
-                match runs.last_mut() {
-                    Some((_, last)) if *last + 1 == from + k => *last += 1,
-                    _ => runs.push((from + k, from + k)),
-                }
-            }
-            let named: Vec<String> = runs.iter().map(told_run).collect();
+            let places = (0..8 * data.len()).filter(|k| data[k / 8] & (1 << (k % 8)) == 0).map(|k| from + k);
+            let named = told_runs(kind, places);
             let which = if named.is_empty() { "none".to_string() } else { named.join(" ") };
             format!("{}, protected: {}", row(data), which)
         }
@@ -201,12 +216,57 @@ fn told_data(apdu: &[u8], data: &[u8]) -> String {
     }
 }
 
-fn told_run(&(first, last): &(usize, usize)) -> String {
-    if first == last {
-        format!("{:04X}", first)
-    } else {
-        format!("{:04X}..{:04X}", first, last)
+/// Rising addresses, each run of them by its first and last.
+fn told_runs(kind: u8, places: impl Iterator<Item = usize>) -> Vec<String> {
+    let mut runs: Vec<(usize, usize)> = Vec::new();
+    for place in places {
+        match runs.last_mut() {
+            Some((_, last)) if *last + 1 == place => *last = place,
+            _ => runs.push((place, place)),
+        }
     }
+    let told = |&(first, last): &(usize, usize)| {
+        if first == last {
+            address(kind, first)
+        } else {
+            format!("{}..{}", address(kind, first), address(kind, last))
+        }
+    };
+    runs.iter().map(told).collect()
+}
+
+/// The addresses of the image bytes that changed, where any did; many runs are cut.
+pub fn changed(kind: u8, places: &[usize]) -> Option<String> {
+    const SHOWN: usize = 8;
+    if places.is_empty() {
+        return None;
+    }
+    let mut runs = told_runs(kind, places.iter().copied());
+    if runs.len() > SHOWN {
+        runs.truncate(SHOWN);
+        runs.push("..".to_string());
+    }
+    Some(format!("{} ({})", runs.join(" "), bytes_of(places.len())))
+}
+
+/// What a raw slot record says, but for the parameter set.
+pub fn slot(record: &[u8; 32]) -> String {
+    let flag = |byte: u8, names: [&str; 2]| match names.get(usize::from(byte)) {
+        Some(name) => name.to_string(),
+        None => format!("{:02X} for {} or {}", byte, names[0], names[1]),
+    };
+    let card = if record[0] == 0 { "no card".to_string() } else { format!("kind {}", record[0]) };
+    let selected = if record[2] == 0 { "no type".to_string() } else { format!("type {:02X}", record[2]) };
+    format!(
+        "{}, {}, {}, page {}, {}, tries left {}, protected {}",
+        card,
+        flag(record[1], ["inactive", "active"]),
+        selected,
+        record[3],
+        flag(record[4], ["closed", "open"]),
+        record[13],
+        u16::from_le_bytes([record[14], record[15]])
+    )
 }
 
 fn tries(counter: u8) -> String {

@@ -1,4 +1,4 @@
-//! The program `play`, over session programs that print fixed lines.
+//! The program `play`, over session programs and trial programs that print fixed lines.
 
 use std::fs;
 use std::path::{Path, PathBuf};
@@ -28,9 +28,15 @@ impl Room {
 
     /// Runs play with a session program.
     fn play(&self, program: &str, words: &[&str]) -> (Option<i32>, String, String) {
+        self.play_with(program, "false", words)
+    }
+
+    /// Runs play with a session program and a trial program.
+    fn play_with(&self, session: &str, trial: &str, words: &[&str]) -> (Option<i32>, String, String) {
         let output: Output = Command::new(env!("CARGO_BIN_EXE_play"))
             .args(words)
-            .env("SESSION_PROGRAM", program)
+            .env("SESSION_PROGRAM", session)
+            .env("TRIAL_PROGRAM", trial)
             .current_dir(&self.0)
             .output()
             .unwrap();
@@ -117,17 +123,173 @@ fn a_check_fails_where_anything_differs() {
     fails(&room, "echo out 0", &format!("{}: No such file or directory (os error 2)", room.path("expected/out.lines")));
 }
 
+const USAGE: &str = "usage: play [--trial] [--check | --records | --bytes | --lines] FILE.script (--help tells more)";
+const NO_RECORDS: &str =
+    "--records and --bytes are for the session program: the trial program is handed with each call what \
+                          came of the one before, so that its input is made while it runs";
+
 #[test]
 fn what_cannot_be_run() {
     let room = Room::new("faults");
     room.put("bad.script", "remove\nsing\n");
     for (words, why) in [
         (&["bad.script"][..], "bad.script, line 2: 'sing' is no word of the language (docs/SCRIPTS.md has it)"),
-        (&["--sing"], "usage: play [--check | --records | --bytes | --lines] FILE.script (--help tells more)"),
-        (&["--check"], "usage: play [--check | --records | --bytes | --lines] FILE.script (--help tells more)"),
+        (&["--sing"], USAGE),
+        (&["--check"], USAGE),
+        (&["--trial"], USAGE),
+        (&["--trial", "--check"], USAGE),
+        (&["--check", "--trial", "out.script"], USAGE),
         (&["none.script"], "none.script: No such file or directory (os error 2)"),
+        (&["--trial", "--records", "out.script"], NO_RECORDS),
+        (&["--trial", "--bytes", "out.script"], NO_RECORDS),
     ] {
         let (code, out, errors) = room.play("echo out 0", words);
         assert_eq!((code, out, errors), (Some(2), String::new(), format!("play: {}\n", why)));
     }
+}
+
+// ---- over the trial program
+
+/// A raw record with these first bytes, in hex.
+fn raw(first: &str) -> String {
+    format!("{:0<64}", first)
+}
+
+/// A line of the trial program: its number, the answer, the record and what changed.
+fn trial_line(number: u8, answer: &str, record: &str, changes: &str) -> String {
+    format!("{} {} {} {:e<542}{}\n", number, answer.len() / 2, raw(record), answer, changes)
+}
+
+const WRITTEN: &str = "800200000000000000009000";
+const CHANGES: &str = " ffff=0a 10000=0b";
+
+/// A room with a script of three calls, and a trial program that prints these lines and keeps what it reads.
+fn trial_room(name: &str, lines: &[String]) -> Room {
+    let room = Room::new(name);
+    room.put("lines", &lines.concat());
+    room.put("trial.sh", "cat lines\nexec cat >cases\n");
+    room.put(
+        "out.script",
+        "insert i2c1024 at FFFF 01 02\nexpect done\nsend FF D0 FF FF 02 0A 0B\nexpect 90 00\nremove\n",
+    );
+    fs::remove_file(room.path("expected/out.records")).unwrap();
+    room.put("expected/out.lines", &format!("in 0\nmsg 0 {} ffff=0a0b\nout 0\n", WRITTEN));
+    room
+}
+
+/// The lines of the first removal and of the three calls.
+fn trial_lines() -> Vec<String> {
+    vec![
+        trial_line(0, "", "00000008", ""),
+        trial_line(0, "", "0b000008", ""),
+        trial_line(0, WRITTEN, "0b010208", CHANGES),
+        trial_line(0, "", "00000008", ""),
+    ]
+}
+
+impl Room {
+    fn trial(&self, words: &[&str]) -> (Option<i32>, String, String) {
+        self.play_with("false", "sh trial.sh", &[&["--trial"], words].concat())
+    }
+}
+
+#[test]
+fn a_script_is_told_over_the_trial_program() {
+    let room = trial_room("trial-told", &trial_lines());
+    let (code, out, errors) = room.trial(&["out.script"]);
+    assert_eq!((code, errors.as_str()), (Some(0), ""));
+    for line in [
+        "        sent    insert: I2C of 1024 kbit, kind 11, image of 131072 bytes",
+        "        line    in 0, the card is in",
+        "        slot    kind 11, inactive, no type, page 8, closed, tries left 0, protected 0",
+        "   2  expect done: so it is",
+        "        sent    6F transfer, bSlot 00, bSeq 00, D0 write 0A 0B at 0FFFF",
+        "        slot    kind 11, active, type 02, page 8, closed, tries left 0, protected 0",
+        "        changed 0FFFF..10000 (2 bytes)",
+        "        line    out 0, the slot is empty",
+        "3 calls, 2 expectations, all met",
+    ] {
+        assert!(out.lines().any(|told| told == line), "no line '{}' in {}", line, out);
+    }
+    assert_eq!(room.trial(&["--lines", "out.script"]).1, fs::read_to_string(room.path("expected/out.lines")).unwrap());
+}
+
+/// Each case has the record and the image that came of the ones before.
+#[test]
+fn the_cases_of_a_script() {
+    let room = trial_room("trial-cases", &trial_lines());
+    room.put("out.script", "insert i2c1024 at FFFF 01 02\nsend FF D0 FF FF 02 0A 0B\nraw 65\n");
+    assert_eq!(room.trial(&["out.script"]).0, Some(0));
+    let record = |first: &[u8]| [first, &[0; 32][first.len()..]].concat();
+    let case = |call: u8, first: &[u8], message: &[u8], image: &[u8]| {
+        let lengths = [&(message.len() as u16).to_le_bytes()[..], &(image.len() as u32).to_le_bytes()].concat();
+        [&[call][..], &record(first), &[0x0f, 0x01, 0xee], &lengths, message, image].concat()
+    };
+    let mut image = vec![0xff; 131_072];
+    image[0xffff..0x10001].copy_from_slice(&[0x01, 0x02]);
+    let message = [0x6f, 7, 0, 0, 0, 0, 0, 0, 0, 0, 0xff, 0xd0, 0xff, 0xff, 0x02, 0x0a, 0x0b];
+    let mut wanted = case(2, &[], &[], &[]);
+    wanted.extend(case(1, &[0, 0, 0, 8], &[11], &image));
+    wanted.extend(case(0, &[11, 0, 0, 8], &message, &image));
+    image[0xffff..0x10001].copy_from_slice(&[0x0a, 0x0b]);
+    wanted.extend(case(0, &[11, 1, 2, 8], &[0x65], &image));
+    let cases = fs::read(room.path("cases")).unwrap();
+    assert_eq!(cases.len(), wanted.len());
+    assert!(cases == wanted);
+}
+
+#[test]
+fn a_check_over_the_trial_program() {
+    let checked = |name: &str, lines: &[String]| {
+        let room = trial_room(name, lines);
+        let (code, out, _) = room.trial(&["--check", "out.script"]);
+        (code, out)
+    };
+    let fails = |name: &str, line: usize, other: &str, why: &str| {
+        let mut lines = trial_lines();
+        lines.splice(line..line + 1, [other.to_string()]);
+        let wanted = format!("FAILED  out.script\n        {}\n0 passed, 1 failed\n", why);
+        assert_eq!(checked(name, &lines), (Some(1), wanted));
+    };
+    let passed = "passed  out.script (3 calls, 2 expectations)\n1 passed, 0 failed\n";
+    assert_eq!(checked("trial-passes", &trial_lines()), (Some(0), passed.to_string()));
+    let wanted = format!("'msg 0 {} ffff=0a0b' is expected", WRITTEN);
+    fails(
+        "trial-changed-less",
+        2,
+        &trial_line(0, WRITTEN, "0b010208", " ffff=0a"),
+        &format!("line 2 is 'msg 0 {} ffff=0a', and {}", WRITTEN, wanted),
+    );
+    fails(
+        "trial-changed-elsewhere",
+        2,
+        &trial_line(0, WRITTEN, "0b010208", " 0000=0b ffff=0a"),
+        &format!("line 2 is 'msg 0 {} 0000=0b ffff=0a', and {}", WRITTEN, wanted),
+    );
+    fails("trial-refused", 2, &trial_line(4, "", "0b000008", ""), &format!("line 2 is 'msg 4', and {}", wanted));
+    fails("trial-bad", 2, "bad\n", "out.script, line 3: sh trial.sh printed 'bad', no line of a case");
+    fails("trial-fewer", 3, "", "out.script, line 5: sh trial.sh printed no line for this call");
+    let more = [&trial_lines()[3][..], "bad\n"].concat();
+    fails("trial-more", 3, &more, "at the end the trial program printed one line too many: 'bad'");
+    fails("trial-start", 0, "bad\n", "sh trial.sh printed 'bad', no line of a case");
+    let why = "sh trial.sh gave 'out 4' for a removal, and no empty record";
+    fails("trial-start-refused", 0, &trial_line(4, "", "", ""), why);
+}
+
+#[test]
+fn an_expectation_over_the_trial_program() {
+    let room = trial_room("trial-unmet", &trial_lines()[..3]);
+    room.put(
+        "out.script",
+        "insert i2c1024\nexpect refused 3\nsend FF\nexpect changed FFFF..10000\nexpect changed nothing\n",
+    );
+    let (code, out, errors) = room.trial(&["out.script"]);
+    assert_eq!(code, Some(1));
+    assert!(out.contains("expect changed FFFF..10000: so it is"), "{}", out);
+    let wanted = format!(
+        "out.script, line 2: expect refused 3: the trial program gave 'in 0'\n\
+         out.script, line 5: expect changed nothing: the trial program gave 'msg 0 {} ffff=0a0b'\n",
+        WRITTEN
+    );
+    assert_eq!(errors, wanted);
 }

@@ -1,8 +1,8 @@
-//! Runs a script of a session: turns it into records, converses with the session program and
-//! prints each answer taken apart.
+//! Runs a script of a session: turns it into records, converses with the session program or the
+//! trial program and prints each answer taken apart.
 
 use script::parse::{self, Record, Step};
-use script::talk::{Heard, Session};
+use script::talk::{Heard, Over, Talk};
 use std::env;
 use std::fs;
 use std::io::{self, Write};
@@ -18,6 +18,11 @@ macro_rules! say {
     };
 }
 
+const USAGE: &str = "usage: play [--trial] [--check | --records | --bytes | --lines] FILE.script (--help tells more)";
+const NO_RECORDS: &str =
+    "--records and --bytes are for the session program: the trial program is handed with each call \
+                          what came of the one before, so that its input is made while it runs";
+
 fn main() -> ExitCode {
     let words: Vec<String> = env::args().skip(1).collect();
     let words: Vec<&str> = words.iter().map(String::as_str).collect();
@@ -25,28 +30,28 @@ fn main() -> ExitCode {
         ["--root", root, ref rest @ ..] => (PathBuf::from(root), rest),
         ref rest => (PathBuf::from("."), rest),
     };
+    let (over, words) = match *words {
+        ["--trial", ref rest @ ..] => (Over::Trial, rest),
+        ref rest => (Over::Session, rest),
+    };
     let result = match *words {
-        ["--check", ref files @ ..] if !files.is_empty() => check_all(&root, files),
-        ["--records", file] => load(file).map(|steps| print_bytes(record_lines(&steps).as_bytes())),
+        ["--check", ref files @ ..] if is_files(files) => check_all(over, &root, files),
+        ["--records" | "--bytes", _] if over == Over::Trial => Err(NO_RECORDS.to_string()),
+        ["--records", file] => load(over, file).map(|steps| print_bytes(record_lines(&steps).as_bytes())),
         ["--bytes", file] => {
-            load(file).map(|steps| print_bytes(&records(&steps).map(Record::bytes).collect::<Vec<_>>().concat()))
+            load(over, file).map(|steps| print_bytes(&records(&steps).map(Record::bytes).collect::<Vec<_>>().concat()))
         }
-        ["--lines", file] => load(file).and_then(|steps| {
-            let run = run(&root, file, &steps, false)?;
+        ["--lines", file] => load(over, file).and_then(|steps| {
+            let run = run(over, &root, file, &steps, false)?;
             let printed = print_bytes(joined(&run.lines).as_bytes());
             Ok(printed && tell_failures(file, &run.failures))
         }),
-        [file] if !file.starts_with("--") => load(file).and_then(|steps| {
-            let run = run(&root, file, &steps, true)?;
-            say!(
-                "\n{} records, {} expectations{}",
-                run.lines.len(),
-                run.expectations,
-                if run.failures.is_empty() { ", all met" } else { "" }
-            );
+        [file] if is_files(&[file]) => load(over, file).and_then(|steps| {
+            let run = run(over, &root, file, &steps, true)?;
+            say!("\n{}{}", run.counts(over), if run.failures.is_empty() { ", all met" } else { "" });
             Ok(tell_failures(file, &run.failures))
         }),
-        _ => Err("usage: play [--check | --records | --bytes | --lines] FILE.script (--help tells more)".to_string()),
+        _ => Err(USAGE.to_string()),
     };
     match result {
         Ok(true) => ExitCode::SUCCESS,
@@ -58,9 +63,14 @@ fn main() -> ExitCode {
     }
 }
 
-fn load(file: &str) -> Result<Vec<Step>, String> {
+/// Whether these are names of files, one or more, and no option is among them.
+fn is_files(words: &[&str]) -> bool {
+    !words.is_empty() && !words.iter().any(|word| word.starts_with("--"))
+}
+
+fn load(over: Over, file: &str) -> Result<Vec<Step>, String> {
     let text = fs::read_to_string(file).map_err(|error| format!("{}: {}", file, error))?;
-    parse::script(&text).map_err(|fault| format!("{}, line {}: {}", file, fault.line, fault.text))
+    parse::script(over, &text).map_err(|fault| format!("{}, line {}: {}", file, fault.line, fault.text))
 }
 
 fn records(steps: &[Step]) -> impl Iterator<Item = &Record> {
@@ -117,9 +127,15 @@ struct Run {
     failures: Vec<String>,
 }
 
+impl Run {
+    fn counts(&self, over: Over) -> String {
+        format!("{} {}s, {} expectations", self.lines.len(), over.given(), self.expectations)
+    }
+}
+
 /// Runs the steps, and tells them where that is wanted.
-fn run(root: &Path, file: &str, steps: &[Step], told: bool) -> Result<Run, String> {
-    let mut session = Session::start(root)?;
+fn run(over: Over, root: &Path, file: &str, steps: &[Step], told: bool) -> Result<Run, String> {
+    let mut talk = Talk::start(over, root)?;
     let mut run = Run { lines: Vec::new(), expectations: 0, failures: Vec::new() };
     let mut last = Heard::default();
     if told {
@@ -130,8 +146,8 @@ fn run(root: &Path, file: &str, steps: &[Step], told: bool) -> Result<Run, Strin
             Step::Say(text) if told => say!("\n{}", text),
             Step::Say(_) => {}
             Step::Record { line, source, record } => {
-                last = session.answer(record).map_err(|text| format!("{}, line {}: {}", file, line, text))?;
-                run.lines.push(last.line.clone());
+                last = talk.answer(record).map_err(|text| format!("{}, line {}: {}", file, line, text))?;
+                run.lines.push(last.whole_line());
                 if told {
                     say!("\n{:>4}  {}", line, cut(source));
                     for (name, text) in last.told(record) {
@@ -146,18 +162,14 @@ fn run(root: &Path, file: &str, steps: &[Step], told: bool) -> Result<Run, Strin
                     say!("{:>4}  {}: {}", line, cut(source), if met { "so it is" } else { "IT IS NOT SO" });
                 }
                 if !met {
-                    run.failures.push(format!(
-                        "line {}: {}: the session program printed '{}'",
-                        line,
-                        cut(source),
-                        last.line
-                    ));
+                    let came = last.whole_line();
+                    run.failures.push(format!("line {}: {}: {} '{}'", line, cut(source), over.gave(), came));
                 }
             }
         }
     }
-    if let Some(line) = session.end() {
-        run.failures.push(format!("at the end the session program printed one line too many: '{}'", line));
+    if let Some(line) = talk.end() {
+        run.failures.push(format!("at the end {} printed one line too many: '{}'", over.name(), line));
     }
     Ok(run)
 }
@@ -172,12 +184,12 @@ fn cut(text: &str) -> String {
 
 // ---- checking
 
-/// Holds each script to its files in the folder `expected` beside it: NAME.records has its records,
-/// NAME.lines the lines that the session program prints for them.
-fn check_all(root: &Path, files: &[&str]) -> Result<bool, String> {
+/// Holds each script to its files in the folder `expected` beside it: NAME.lines has the lines that
+/// `--lines` prints for it, and for the session program NAME.records has its records.
+fn check_all(over: Over, root: &Path, files: &[&str]) -> Result<bool, String> {
     let (mut passed, mut failed) = (0, 0);
     for file in files {
-        let result = load(file).and_then(|steps| check(root, file, &steps));
+        let result = load(over, file).and_then(|steps| check(over, root, file, &steps));
         match result {
             Ok(text) => {
                 passed += 1;
@@ -193,7 +205,7 @@ fn check_all(root: &Path, files: &[&str]) -> Result<bool, String> {
     Ok(failed == 0)
 }
 
-fn check(root: &Path, file: &str, steps: &[Step]) -> Result<String, String> {
+fn check(over: Over, root: &Path, file: &str, steps: &[Step]) -> Result<String, String> {
     let kept = |extension: &str| {
         let script = Path::new(file);
         let mut name = script.file_stem().unwrap_or_default().to_os_string();
@@ -201,12 +213,14 @@ fn check(root: &Path, file: &str, steps: &[Step]) -> Result<String, String> {
         let path = script.with_file_name("expected").join(name);
         fs::read_to_string(&path).map_err(|error| format!("{}: {}", path.display(), error))
     };
-    same("record", &kept(".records")?, &record_lines(steps))?;
-    let run = run(root, file, steps, false)?;
+    if over == Over::Session {
+        same("record", &kept(".records")?, &record_lines(steps))?;
+    }
+    let run = run(over, root, file, steps, false)?;
     same("line", &kept(".lines")?, &joined(&run.lines))?;
     match run.failures.first() {
         Some(failure) => Err(failure.clone()),
-        None => Ok(format!("{} records, {} expectations", run.lines.len(), run.expectations)),
+        None => Ok(run.counts(over)),
     }
 }
 

@@ -2,7 +2,7 @@ use super::*;
 
 /// The records of a script, as they stand on the session program's input.
 fn records(text: &str) -> Vec<Vec<u8>> {
-    match script(text) {
+    match script(Over::Session, text) {
         Ok(steps) => steps
             .iter()
             .filter_map(|step| match step {
@@ -27,8 +27,21 @@ fn image(line: &str) -> Vec<u8> {
     body(line)[1..].to_vec()
 }
 
+/// The body of the one insertion of a script over the trial program.
+fn inserted(text: &str) -> Vec<u8> {
+    match script(Over::Trial, text).map(|steps| steps.into_iter().next()) {
+        Ok(Some(Step::Record { record: Record::Insert { body, .. }, .. })) => body,
+        Ok(_) => panic!("'{}' is no insertion", text),
+        Err(fault) => panic!("line {}: {}", fault.line, fault.text),
+    }
+}
+
 fn fault(text: &str) -> (usize, String) {
-    match script(text) {
+    fault_over(Over::Session, text)
+}
+
+fn fault_over(over: Over, text: &str) -> (usize, String) {
+    match script(over, text) {
         Ok(_) => panic!("'{}' has no fault", text),
         Err(fault) => (fault.line, fault.text),
     }
@@ -98,7 +111,7 @@ fn parameters() {
 #[test]
 fn expected_sets() {
     let text = "parameters\nexpect t0 1100 00 0A00\nexpect t1 11 10 00*5";
-    let sets: Vec<(u8, Vec<u8>)> = script(text)
+    let sets: Vec<(u8, Vec<u8>)> = script(Over::Session, text)
         .unwrap_or_default()
         .into_iter()
         .filter_map(|step| match step {
@@ -134,6 +147,13 @@ fn select_alone_takes_the_type_of_the_last_card() {
         assert_eq!(records[2].last(), Some(&own), "{}", card);
     }
     assert_eq!(fault("select"), (1, "'select' alone needs an insert of a card before it".to_string()));
+    for card in ["i2c512", "i2c1024"] {
+        let steps = script(Over::Trial, &format!("insert sle4442\ninsert {}\nselect", card)).unwrap_or_default();
+        match steps.last() {
+            Some(Step::Record { record, .. }) => assert_eq!(record.message().last(), Some(&2), "{}", card),
+            _ => panic!("{} has no select", card),
+        }
+    }
 }
 
 #[test]
@@ -154,13 +174,72 @@ fn cards_by_name_and_by_number() {
         ("sle4432", 31, 264),
     ];
     for (name, number, length) in cards {
-        let inserted = body(&format!("insert {}", name));
-        assert_eq!((inserted[0], inserted.len()), (number, 1 + length), "{}", name);
-        assert_eq!(inserted, body(&format!("insert kind {}", number)));
+        let card = body(&format!("insert {}", name));
+        assert_eq!((card[0], card.len()), (number, 1 + length), "{}", name);
+        assert_eq!(card, body(&format!("insert kind {}", number)));
+        assert_eq!(card, inserted(&format!("insert {}", name)));
+    }
+    for (name, number, length) in [("i2c512", 10, 65536), ("i2c1024", 11, 131_072)] {
+        let card = inserted(&format!("insert {}", name));
+        assert_eq!((card[0], card.len()), (number, 1 + length), "{}", name);
+        assert_eq!(card, inserted(&format!("insert kind {}", number)));
     }
     assert_eq!(body("insert nothing"), []);
     assert_eq!(body("insert kind 77"), [77]);
     assert_eq!(body("insert kind 0 image 01 02*3"), [0, 1, 2, 2, 2]);
+    assert_eq!(inserted("insert kind 0 image 01 02*3"), [0, 1, 2, 2, 2]);
+}
+
+/// Over the session program the large kinds are unknown ones: by name they are none, by number they have an image as it is
+/// given.
+#[test]
+fn the_large_cards_over_the_session_program() {
+    for (name, number) in [("i2c512", 10), ("i2c1024", 11)] {
+        let text = format!(
+            "'{}' is played with './play --trial': the session program takes kind {} as unknown, since a record's body holds \
+             at most 32,769 bytes, a kind byte and an image of 32,768",
+            name, number
+        );
+        assert_eq!(fault(&format!("insert {}", name)), (1, text.clone()));
+        assert_eq!(fault(&format!("insert {} fill 00", name)), (1, text));
+        assert_eq!(body(&format!("insert kind {}", number)), [number]);
+        assert_eq!(body(&format!("insert kind {} image 01 02*3", number)), [number, 1, 2, 2, 2]);
+        assert_eq!(body(&format!("insert kind {} image FF*32768", number)).len(), 32_769);
+        let text = format!("kind {}, which the session program takes as unknown, has the option 'image' alone", number);
+        assert_eq!(fault(&format!("insert kind {} fill 00", number)), (1, text));
+        let text = "a record holds at most 65535 bytes, and these are 65537".to_string();
+        assert_eq!(fault(&format!("insert kind {} image FF*65536", number)), (1, text));
+        // They leave the type that `select` alone takes.
+        let records = records(&format!("insert sle4442\ninsert kind {}\nselect", number));
+        assert_eq!(records[2].last(), Some(&6));
+    }
+}
+
+#[test]
+fn images_of_the_large_cards() {
+    let card = inserted("insert i2c1024 fill 5C memory 11 22 at FFFF AA BB at 1FFFF CC at 00002 33");
+    assert_eq!(card[1..5], [0x11, 0x22, 0x33, 0x5c]);
+    assert_eq!(card[1 + 0xfffe..1 + 0x10002], [0x5c, 0xaa, 0xbb, 0x5c]);
+    assert_eq!(card[1 + 0x1fffe..], [0x5c, 0xcc]);
+    let card = inserted("insert i2c512 fill 5C at 0FFFF CC");
+    assert_eq!(card[1 + 0xfffe..], [0x5c, 0xcc]);
+    assert_eq!(inserted("insert i2c1024 short 1").len(), 131_072);
+    assert_eq!(inserted("insert i2c512 long 65536").len(), 131_073);
+    assert_eq!(inserted("insert i2c1024 image 01*131072"), [&[11][..], &[1; 131_072]].concat());
+}
+
+#[test]
+fn changed_places() {
+    let text = "remove\nexpect changed 1FFFF,0..2,1\nexpect changed nothing";
+    let places: Vec<Vec<usize>> = script(Over::Trial, text)
+        .unwrap_or_default()
+        .into_iter()
+        .filter_map(|step| match step {
+            Step::Expect { expected: Expected::Changed(places), .. } => Some(places),
+            _ => None,
+        })
+        .collect();
+    assert_eq!(places, [vec![0, 1, 2, 0x1ffff], vec![]]);
 }
 
 #[test]
@@ -210,7 +289,7 @@ fn hex_and_comments() {
     let text = "send FFB0 0000*2 04 # and so on\n\n   # nothing\nsay # stays in a text";
     assert_eq!(fault(text), (1, "'0000*2' is not bytes in hex".to_string()));
     assert_eq!(records("send FFB0 00*2 04 # and so on")[0][14..], [0xff, 0xb0, 0, 0, 4]);
-    match script("say a # b").ok().and_then(|steps| steps.into_iter().next()) {
+    match script(Over::Session, "say a # b").ok().and_then(|steps| steps.into_iter().next()) {
         Some(Step::Say(text)) => assert_eq!(text, "a # b"),
         _ => panic!("say says something"),
     }
@@ -233,7 +312,7 @@ fn faults_name_their_line() {
         ("insert", "insert what? A card as sle4442, or 'nothing'"),
         ("insert sle4443", "'sle4443' is no card"),
         ("insert kind 256", "'256' is no kind from 0 to 255"),
-        ("insert kind 77 fill 00", "an unknown kind has the option 'image' alone"),
+        ("insert kind 77 fill 00", "kind 77, which is unknown, has the option 'image' alone"),
         ("insert i2c1 page 8", "'page' is no option of insert"),
         ("insert i2c1 counter 07", "I2C of 1 kbit has no code and no counter"),
         ("insert i2c1 protected 0000", "byte 0000 of I2C of 1 kbit has no protection bit"),
@@ -250,10 +329,17 @@ fn faults_name_their_line() {
         ("insert sle4442 code", "bytes in hex are missing after 'code'"),
         ("insert sle4442 counter", "something is missing after 'counter'"),
         ("insert sle4442 at 00FF 01 02", "memory bytes at 00FF pass the 256 bytes of SLE4442"),
-        ("insert sle4442 at 12345 01", "'12345' is no address in hex"),
+        ("insert sle4442 at 12345 01", "memory bytes at 12345 pass the 256 bytes of SLE4442"),
+        ("insert sle4442 at 012345 01", "'012345' is no address in hex"),
+        ("insert sle4442 at +1 01", "'+1' is no address in hex"),
+        ("insert sle4442 at 0x1 01", "'0x1' is no address in hex"),
         ("insert sle4442 protected 0020", "byte 0020 of SLE4442 has no protection bit"),
+        ("insert sle4442 protected 10000", "byte 10000 of SLE4442 has no protection bit"),
+        ("insert sle4442 protected 0000,", "'' is no address in hex"),
+        ("insert sle4442 protected 0000,0003..0002", "'0003..0002' ends before it begins"),
         ("insert sle4442 short 265", "the image has only 264 bytes"),
-        ("insert i2c1 long 70001", "'70001' is no number of bytes"),
+        ("insert i2c1 long 200001", "'200001' is no number of bytes"),
+        ("raw 00*200001", "'00*200001' is not bytes in hex"),
         ("raw 00*65536", "a record holds at most 65535 bytes, and these are 65536"),
         ("expect 90 00", "there is no answer to expect anything of yet"),
         ("remove\nexpect", "expect what?"),
@@ -263,7 +349,40 @@ fn faults_name_their_line() {
         ("remove\nexpect t2 11", "'t2' is not bytes in hex"),
         ("remove\nexpect refused 6", "'6' is no number from 1 to 5"),
         ("remove\nexpect error", "'expect error' takes one byte in hex"),
+        (
+            "remove\nexpect changed 0000",
+            "'expect changed' is for './play --trial': the session program tells nothing of the image",
+        ),
     ] {
         assert_eq!(fault(&format!("# first\n{}", line)), (1 + line.lines().count(), text.to_string()), "{}", line);
     }
+}
+
+/// What has no meaning over the trial program, and its limits.
+#[test]
+fn faults_over_the_trial_program() {
+    for (line, text) in [
+        ("bytes 4F", "'bytes' is for the session program: the trial program is given calls"),
+        ("insert nothing", "'insert nothing' is a record for the session program: an insertion call has a kind"),
+        ("remove\nexpect bad", "'expect bad' is for the session program: what a script calls for is never bad"),
+        ("remove\nexpect changed", "it is 'expect changed' with a list of addresses, or with 'nothing'"),
+        ("remove\nexpect changed 0000 0001", "it is 'expect changed' with a list of addresses, or with 'nothing'"),
+        ("remove\nexpect changed 0001..0000", "'0001..0000' ends before it begins"),
+        ("remove\nexpect changed all", "'all' is no address in hex"),
+        ("raw 00*601", "the trial program takes a message of at most 600 bytes, and these are 601"),
+        ("send 00*591", "the trial program takes a message of at most 600 bytes, and these are 601"),
+        ("insert i2c1024 long 1", "the trial program takes an image of at most 131072 bytes, and these are 131073"),
+        ("insert kind 77 fill 00", "kind 77, which is unknown, has the option 'image' alone"),
+        ("insert i2c512 at 10000 01", "memory bytes at 10000 pass the 65536 bytes of I2C of 512 kbit"),
+        ("insert i2c1024 at 1FFFF 01 02", "memory bytes at 1FFFF pass the 131072 bytes of I2C of 1024 kbit"),
+        ("insert i2c1024 at 20000 01", "memory bytes at 20000 pass the 131072 bytes of I2C of 1024 kbit"),
+        ("insert i2c1024 protected 1FFFF", "byte 1FFFF of I2C of 1024 kbit has no protection bit"),
+        ("insert kind 10 code 112233", "I2C of 512 kbit has no code and no counter"),
+        ("sing", "'sing' is no word of the language (docs/SCRIPTS.md has it)"),
+    ] {
+        let (wanted, text) = (1 + line.lines().count(), text.to_string());
+        assert_eq!(fault_over(Over::Trial, &format!("# first\n{}", line)), (wanted, text), "{}", line);
+    }
+    // A message and an image that just fit.
+    assert!(script(Over::Trial, "raw 00*600\nsend 00*590\ninsert i2c1024 long 0").is_ok());
 }

@@ -1,7 +1,7 @@
 use super::*;
 
 fn heard(line: &str) -> Heard {
-    Heard { message: Vec::new(), line: line.to_string() }
+    Heard { line: line.to_string(), ..Heard::default() }
 }
 
 /// Each expectation, a line that meets it and lines that do not.
@@ -70,7 +70,7 @@ fn lines_that_are_no_answers() {
 fn sets_in_words() {
     let message = vec![0x61, 5, 0, 0, 0, 0, 9, 0, 0, 0, 0x11, 0x00, 0x00, 0x0a, 0x00];
     let line = "msg 0 820500000000090100001100000a00".to_string();
-    let heard = Heard { message: message.clone(), line };
+    let heard = Heard { message: message.clone(), line, ..Heard::default() };
     let parts = heard.told(&Record::Message(message));
     let names: Vec<&str> = parts.iter().map(|(name, _)| *name).collect();
     assert_eq!(names, ["sent", "set", "answer", "status", "data", "set"]);
@@ -102,4 +102,41 @@ fn lines_in_words() {
         assert_eq!(parts[0].0, "sent");
         assert_eq!(parts[1], ("line", text.to_string()));
     }
+}
+
+/// Over the trial program: which image bytes changed, in the line and as it is expected and told.
+#[test]
+fn changes() {
+    let message = vec![0x6f, 7, 0, 0, 0, 0, 9, 0, 0, 0, 0xff, 0xd1, 0xff, 0xfe, 0x02, 0x0a, 0x0b];
+    let heard = Heard {
+        message: message.clone(),
+        line: "msg 0 800200000000090000009000".to_string(),
+        kind: 11,
+        slot: None,
+        changed: vec![(0x0007, vec![0x01]), (0xffff, vec![0x0a, 0x0b]), (0x1fffe, vec![0xff])],
+    };
+    let line = "msg 0 800200000000090000009000 0007=01 ffff=0a0b 1fffe=ff";
+    assert_eq!(heard.whole_line(), line);
+    assert!(heard.meets(&Expected::Line(line.to_string())));
+    assert!(!heard.meets(&Expected::Line(heard.line.clone())));
+    assert!(heard.meets(&Expected::Data(vec![0x90, 0x00])));
+    assert!(heard.meets(&Expected::Changed(vec![0x0007, 0xffff, 0x10000, 0x1fffe])));
+    for unmet in [&[][..], &[7], &[7, 0xffff, 0x10000], &[7, 0xffff, 0x10000, 0x1fffe, 0x1ffff]] {
+        assert!(!heard.meets(&Expected::Changed(unmet.to_vec())));
+    }
+    let parts = heard.told(&Record::Message(message));
+    assert_eq!(parts[0].1, "6F transfer, bSlot 00, bSeq 09, D1 write 0A 0B at 1FFFE");
+    assert_eq!(parts.last(), Some(&("changed", "00007 0FFFF..10000 1FFFE (4 bytes)".to_string())));
+}
+
+/// What the slot record says is told where it is new.
+#[test]
+fn slots() {
+    let slot = Some("kind 11, inactive".to_string());
+    let inserted = Heard { line: "in 0".to_string(), kind: 11, slot, ..Heard::default() };
+    let record = Record::Insert { told: "a card".to_string(), body: vec![11] };
+    let parts = inserted.told(&record);
+    assert_eq!(parts[1..], [("line", "in 0, the card is in".into()), ("slot", "kind 11, inactive".into())]);
+    assert_eq!(inserted.whole_line(), "in 0");
+    assert!(inserted.meets(&Expected::Changed(Vec::new())));
 }

@@ -15,19 +15,19 @@ fn transfer(data: &str) -> Vec<u8> {
 fn told(name: &str, apdu: &str, data: &str) -> Option<String> {
     let data = bytes(data);
     let whole = [&[0x80, data.len() as u8, 0, 0, 0, 0, 9, 0, 0, 0][..], &data].concat();
-    answer(&transfer(apdu), &whole).into_iter().find(|(part, _)| *part == name).map(|(_, text)| text)
+    answer(0, &transfer(apdu), &whole).into_iter().find(|(part, _)| *part == name).map(|(_, text)| text)
 }
 
 #[test]
 fn messages() {
-    assert_eq!(message(&bytes("62 00000000 00 07 000000")), "62 power on, bSlot 00, bSeq 07");
-    assert_eq!(message(&bytes("65 00000000 05 07 000000")), "65 slot status, bSlot 05, bSeq 07");
+    assert_eq!(message(0, &bytes("62 00000000 00 07 000000")), "62 power on, bSlot 00, bSeq 07");
+    assert_eq!(message(0, &bytes("65 00000000 05 07 000000")), "65 slot status, bSlot 05, bSeq 07");
     assert_eq!(
-        message(&bytes("63 FFFFFFFF 00 07 010203")),
+        message(0, &bytes("63 FFFFFFFF 00 07 010203")),
         "63 power off, bSlot 00, bSeq 07, dwLength FFFFFFFFh where 0 bytes came, bytes 7 to 9 01 02 03"
     );
-    assert_eq!(message(&bytes("69 00000000 00 07 000000")), "69 an unsupported type, bSlot 00, bSeq 07");
-    assert_eq!(message(&[0x65]), "a message of only 1 bytes: 65");
+    assert_eq!(message(0, &bytes("69 00000000 00 07 000000")), "69 an unsupported type, bSlot 00, bSeq 07");
+    assert_eq!(message(0, &[0x65]), "a message of only 1 bytes: 65");
 }
 
 #[test]
@@ -50,7 +50,7 @@ fn messages_of_parameters() {
              0 data bytes",
         ),
     ] {
-        assert_eq!(message(&bytes(text)), wanted);
+        assert_eq!(message(0, &bytes(text)), wanted);
     }
     let set = sent_set(&bytes("61 05000000 00 07 000000 11 00 00 0A 00"));
     assert_eq!(set, Some(parameters::told(0, &[0x11, 0x00, 0x00, 0x0a, 0x00])));
@@ -78,8 +78,62 @@ fn commands() {
         ("00 B0 00 00 01", "no command: 00 B0 00 00 01"),
         ("FF B0", "2 data bytes FF B0"),
     ] {
-        assert_eq!(message(&transfer(apdu)), format!("6F transfer, bSlot 00, bSeq 09, {}", text));
+        // On every card but one whose addresses have 17 bits.
+        for kind in [0, 1, 9, 10, 20, 21, 30, 31, 77] {
+            assert_eq!(message(kind, &transfer(apdu)), format!("6F transfer, bSlot 00, bSeq 09, {}", text));
+        }
     }
+}
+
+/// On kind 11 B1 and D1 are B0 and D0 with the top address bit.
+#[test]
+fn commands_with_a_top_bit() {
+    for (apdu, text) in [
+        ("FF B0 01 02 01", "B0 read 1 byte from 00102"),
+        ("FF B0 FF FF 02", "B0 read 2 bytes from 0FFFF"),
+        ("FF B1 00 00 04", "B1 read 4 bytes from 10000"),
+        ("FF B1 FF FF 01", "B1 read 1 byte from 1FFFF"),
+        ("FF D0 00 10 02 AA BB", "D0 write AA BB at 00010"),
+        ("FF D1 00 10 02 AA BB", "D1 write AA BB at 10010"),
+        ("FF D1 FF FF 01 AA", "D1 write AA at 1FFFF"),
+        ("FF 01 00 00 01 03", "01 set the reader page, code 03"),
+        ("FF B2 00 10 02", "B2 read 2 bytes of protection bits from 0010"),
+        ("FF B1 00", "3 data bytes FF B1 00"),
+        ("00 B1 00 00 01", "no command: 00 B1 00 00 01"),
+    ] {
+        assert_eq!(message(11, &transfer(apdu)), format!("6F transfer, bSlot 00, bSeq 09, {}", text));
+    }
+    // What B1 reads there is no counter.
+    let read = bytes("80 06000000 00 09 00 00 00 05 00 00 00 90 00");
+    let told = |kind: u8| answer(kind, &transfer("FF B1 00 00 04"), &read)[2..].to_vec();
+    let done = ("word", "90 00 done".to_string());
+    assert_eq!(told(11), [("data", "05 00 00 00".to_string()), done.clone()]);
+    assert_eq!(told(30), [("data", "05 00 00 00, counter 05: 2 tries left".to_string()), done]);
+}
+
+#[test]
+fn image_bytes_that_changed() {
+    assert_eq!(changed(11, &[]), None);
+    let told = |kind: u8, places: &[usize]| changed(kind, places).unwrap();
+    assert_eq!(told(11, &(0xfff0..0x10010).collect::<Vec<_>>()), "0FFF0..1000F (32 bytes)");
+    assert_eq!(told(11, &[0x1ffff]), "1FFFF (1 byte)");
+    assert_eq!(told(10, &[0x0000, 0xfffe, 0xffff]), "0000 FFFE..FFFF (3 bytes)");
+    let runs = |count: usize| (0..count).map(|k| 2 * k).collect::<Vec<_>>();
+    assert_eq!(told(9, &runs(8)), "0000 0002 0004 0006 0008 000A 000C 000E (8 bytes)");
+    assert_eq!(told(9, &runs(9)), "0000 0002 0004 0006 0008 000A 000C 000E .. (9 bytes)");
+}
+
+#[test]
+fn slot_records() {
+    let mut record = [0; 32];
+    record[3] = 8;
+    assert_eq!(slot(&record), "no card, inactive, no type, page 8, closed, tries left 0, protected 0");
+    record[..5].copy_from_slice(&[20, 1, 5, 128, 1]);
+    record[13..16].copy_from_slice(&[8, 0xff, 0x03]);
+    assert_eq!(slot(&record), "kind 20, active, type 05, page 128, open, tries left 8, protected 1023");
+    // A wrong reader may leave any bytes.
+    let wanted = "kind 255, FF for inactive or active, type FF, page 255, FF for closed or open, tries left 255, protected 65535";
+    assert_eq!(slot(&[0xff; 32]), wanted);
 }
 
 #[test]
@@ -90,11 +144,11 @@ fn long_rows_are_cut() {
 
 #[test]
 fn answers() {
-    let status = answer(&bytes("65 00000000 00 07 000000"), &bytes("81 00000000 00 07 01 00 01"));
+    let status = answer(0, &bytes("65 00000000 00 07 000000"), &bytes("81 00000000 00 07 01 00 01"));
     assert_eq!(status[0], ("answer", "81 slot status, bSlot 00, bSeq 07, clock stopped".to_string()));
     assert_eq!(status[1], ("status", "01 success, card inactive, error 00 none".to_string()));
     assert_eq!(status.len(), 2);
-    let reset = answer(&bytes("62 00000000 00 00 000000"), &bytes("80 02000000 00 00 00 00 00 3B 00"));
+    let reset = answer(0, &bytes("62 00000000 00 00 000000"), &bytes("80 02000000 00 00 00 00 00 3B 00"));
     assert_eq!(reset[2], ("data", "3B 00, the answer to reset".to_string()));
     for (error, text) in [
         (0x00, "the message type is not supported"),
@@ -105,7 +159,7 @@ fn answers() {
         (0xfe, "the card is mute: there is none, or it is not active"),
         (0x02, "no error of the paper"),
     ] {
-        let failed = answer(&transfer(""), &[0x80, 0, 0, 0, 0, 0, 9, 0x42, error, 0]);
+        let failed = answer(0, &transfer(""), &[0x80, 0, 0, 0, 0, 0, 9, 0x42, error, 0]);
         let wanted = format!("42 failed, no card, or another slot, error {:02X} {}", error, text);
         assert_eq!(failed[1], ("status", wanted));
     }
@@ -114,7 +168,7 @@ fn answers() {
 #[test]
 fn answers_of_parameters() {
     let get = bytes("6C 00000000 00 07 000000");
-    let parts = answer(&get, &bytes("82 05000000 00 07 01 00 00 11 00 00 0A 00"));
+    let parts = answer(0, &get, &bytes("82 05000000 00 07 01 00 00 11 00 00 0A 00"));
     let wanted = [
         ("answer", "82 parameters, bSlot 00, bSeq 07, protocol number 00".to_string()),
         ("status", "01 success, card inactive, error 00 none".to_string()),
@@ -122,7 +176,7 @@ fn answers_of_parameters() {
         ("set", parameters::told(0, &[0x11, 0x00, 0x00, 0x0a, 0x00])),
     ];
     assert_eq!(parts, wanted);
-    let parts = answer(&get, &bytes("82 07000000 00 07 00 00 01 11 10 00 4D 00 20 00"));
+    let parts = answer(0, &get, &bytes("82 07000000 00 07 00 00 01 11 10 00 4D 00 20 00"));
     assert_eq!(parts[0].1, "82 parameters, bSlot 00, bSeq 07, protocol number 01");
     assert_eq!(parts[3], ("set", parameters::told(1, &[0x11, 0x10, 0x00, 0x4d, 0x00, 0x20, 0x00])));
     for (error, text) in [
@@ -138,7 +192,7 @@ fn answers_of_parameters() {
         (0x10, "byte 16: NAD is not 0"),
         (0xfe, "there is no card"),
     ] {
-        let failed = answer(&get, &[0x82, 0, 0, 0, 0, 0, 7, 0x41, error, 0]);
+        let failed = answer(0, &get, &[0x82, 0, 0, 0, 0, 0, 7, 0x41, error, 0]);
         assert_eq!(failed[1], ("status", format!("41 failed, card inactive, error {:02X} {}", error, text)));
         assert_eq!(failed.len(), 2);
     }
@@ -183,7 +237,7 @@ fn status_words() {
 /// The message has succeeded, whatever became of the bytes.
 #[test]
 fn a_write_over_a_protected_byte() {
-    let parts = answer(&transfer("FF D0 00 10 02 AA BB"), &bytes("80 02000000 00 09 00 00 00 65 81"));
+    let parts = answer(0, &transfer("FF D0 00 10 02 AA BB"), &bytes("80 02000000 00 09 00 00 00 65 81"));
     let wanted = [
         ("answer", "80 data block, bSlot 00, bSeq 09"),
         ("status", "00 success, card active, error 00 none"),
@@ -210,23 +264,23 @@ fn data() {
 fn odd_answers() {
     let long = [&[0x80, 4, 0, 0, 0, 0, 9, 0, 0, 0][..], &[1, 2, 0x90, 0x00]].concat();
     for apdu in ["", "FF", "FF B1", "FF B2", "FF B2 00", "FF 20"] {
-        let parts = answer(&transfer(apdu), &long);
+        let parts = answer(0, &transfer(apdu), &long);
         assert_eq!(parts.last().map(|(name, _)| *name), Some("word"));
     }
-    assert_eq!(answer(&[0x6f], &long).len(), 4);
-    assert_eq!(answer(&[], &long).len(), 3);
-    assert_eq!(answer(&transfer(""), &long[..9])[0].1, "only 9 bytes: 80 04 00 00 00 00 09 00 00");
-    let parts = answer(&transfer(""), &[0x55, 1, 0, 0, 0, 0, 9, 3, 1, 0]);
+    assert_eq!(answer(0, &[0x6f], &long).len(), 4);
+    assert_eq!(answer(0, &[], &long).len(), 3);
+    assert_eq!(answer(0, &transfer(""), &long[..9])[0].1, "only 9 bytes: 80 04 00 00 00 00 09 00 00");
+    let parts = answer(0, &transfer(""), &[0x55, 1, 0, 0, 0, 0, 9, 3, 1, 0]);
     assert_eq!(parts[0].1, "55 no answer type of the paper, bSlot 00, bSeq 09, dwLength 1 where 0 bytes came");
     assert_eq!(parts[1].1, "03 success, no state of the paper, error 01 which a success does not have");
     // An answer of parameters without a set, with one of no protocol, and to what asked for none.
     let empty = [0x82, 0, 0, 0, 0, 0, 9, 0, 0, 1];
-    assert_eq!(answer(&transfer(""), &empty).last().unwrap().1, "no set: T=1 has 7 bytes, and these are 0");
+    assert_eq!(answer(0, &transfer(""), &empty).last().unwrap().1, "no set: T=1 has 7 bytes, and these are 0");
     let unknown = [&[0x82, 1, 0, 0, 0, 0, 9, 0, 0, 0x80][..], &[7; 300]].concat();
-    let parts = answer(&[0x61], &unknown);
+    let parts = answer(0, &[0x61], &unknown);
     assert_eq!(parts.last().unwrap().1, "no set: protocol number 80 is neither T=0 nor T=1");
     let failed = [&[0x82, 2, 0, 0, 0, 0, 9, 0x40, 0x0a, 1][..], &[0x90, 0x00]].concat();
-    assert_eq!(answer(&[0x61], &failed).last(), Some(&("data", "90 00".to_string())));
+    assert_eq!(answer(0, &[0x61], &failed).last(), Some(&("data", "90 00".to_string())));
 }
 
 /// Whatever the message and the answer begin with and however long they are, they are told.
@@ -238,9 +292,11 @@ fn any_bytes_are_told() {
                 let mut whole = vec![fill; length];
                 whole.iter_mut().take(1).for_each(|byte| *byte = first);
                 let _ = sent_set(&whole);
-                assert!(!message(&whole).is_empty());
-                for kind in [0x61, 0x62, 0x65, 0x6c, 0x6f] {
-                    assert!(!answer(&[kind; 17], &whole).is_empty());
+                for card in [0, 11] {
+                    assert!(!message(card, &whole).is_empty());
+                    for kind in [0x61, 0x62, 0x65, 0x6c, 0x6f] {
+                        assert!(!answer(card, &[kind; 17], &whole).is_empty());
+                    }
                 }
             }
         }

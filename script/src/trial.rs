@@ -1,0 +1,93 @@
+//! The trial program's cases and lines, and the record and image that are kept from one to the next.
+//! What a call does to them is the trial program's to say.
+
+use crate::hex;
+use crate::parse::Record;
+use crate::talk::Heard;
+use crate::tell;
+
+/// The longest message and image of a case.
+pub const MOST_MESSAGE: usize = 600;
+pub const MOST_IMAGE: usize = 131_072;
+
+/// The answer buffer that is lent, and the byte it is filled with.
+const ROOM: usize = 271;
+const FILL: u8 = 0xee;
+
+/// The raw record and the image of the card that is in. At first the record is zeros, which is none.
+#[derive(Default)]
+pub struct Kept {
+    record: [u8; 32],
+    image: Vec<u8>,
+}
+
+impl Kept {
+    /// The case of a script's record: the call, the slot record, the buffer's length and fill, the message's and the image's
+    /// length, and both of these. The parser has seen to it that there are such calls, and the lengths are in the limits.
+    pub fn case(&self, record: &Record) -> Vec<u8> {
+        let (call, message) = match record {
+            Record::Message(message) => (0, &message[..]),
+            Record::Insert { body, .. } => (1, &body[..1]),
+            Record::Remove => (2, &[][..]),
+            Record::Loose(_) => unreachable!("bytes as they stand are no call"),
+        };
+        let image = self.lent(record);
+        let mut case = vec![call];
+        case.extend_from_slice(&self.record);
+        case.extend_from_slice(&(ROOM as u16).to_le_bytes());
+        case.push(FILL);
+        case.extend_from_slice(&(message.len() as u16).to_le_bytes());
+        case.extend_from_slice(&(image.len() as u32).to_le_bytes());
+        case.extend_from_slice(message);
+        case.extend_from_slice(image);
+        case
+    }
+
+    /// The image of a case: that of the card that is put in, or of the one that is in.
+    fn lent<'a>(&'a self, record: &'a Record) -> &'a [u8] {
+        match record {
+            Record::Insert { body, .. } => &body[1..],
+            Record::Remove => &[],
+            _ => &self.image,
+        }
+    }
+
+    /// Takes record and image from the line of a record's case, or nothing where it is no such line.
+    pub fn take(&mut self, record: &Record, line: &str) -> Option<Heard> {
+        let mut image = self.lent(record).to_vec();
+        let mut words = line.split(' ');
+        let number = words.next()?.parse::<u8>().ok()?;
+        let length = words.next()?.parse::<usize>().ok()?;
+        let next: [u8; 32] = hex::bytes(words.next()?)?.try_into().ok()?;
+        let answer = hex::bytes(words.next()?).filter(|buffer| buffer.len() == ROOM)?.get(..length)?.to_vec();
+        let mut changed: Vec<(usize, Vec<u8>)> = Vec::new();
+        for word in words {
+            let (place, value) = word.split_once('=')?;
+            let place = usize::from_str_radix(place, 16).ok()?;
+            let [value]: [u8; 1] = hex::bytes(value)?.try_into().ok()?;
+            *image.get_mut(place)? = value;
+            match changed.last_mut() {
+                Some((first, bytes)) if *first + bytes.len() == place => bytes.push(value),
+                _ => changed.push((place, vec![value])),
+            }
+        }
+        let line = match record {
+            Record::Insert { .. } => format!("in {}", number),
+            Record::Remove => format!("out {}", number),
+            _ if number == 0 => format!("msg 0 {}", hex::digits(&answer)),
+            _ => format!("msg {}", number),
+        };
+
+        // A card that was not put in leaves the one that is in.
+        if number == 0 || !matches!(record, Record::Insert { .. }) {
+            self.image = image;
+        }
+        let (before, after) = (tell::slot(&self.record), tell::slot(&next));
+        self.record = next;
+        let slot = if before == after { None } else { Some(after) };
+        Some(Heard { message: record.message().to_vec(), line, kind: next[0], slot, changed })
+    }
+}
+
+#[cfg(test)]
+mod tests;
