@@ -21,8 +21,8 @@ pub struct Code {
 }
 
 impl Kind {
-    /// Whether a record of the session program can hold its image beside the kind byte. The session program takes a kind
-    /// that does not fit as unknown.
+    /// Whether a record of the session program can hold its image beside the kind byte. The session
+    /// program takes a kind that does not fit as unknown.
     pub fn fits_a_record(&self) -> bool {
         self.image <= 32_768
     }

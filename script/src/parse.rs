@@ -230,8 +230,8 @@ impl Parser {
                 let card = cards::named(name).ok_or_else(|| format!("'{}' is no card", name))?;
                 if !self.takes(card) {
                     return Err(format!(
-                        "'{}' is played with './play --trial': the session program takes kind {} as unknown, since a record's \
-                         body holds at most 32,769 bytes, a kind byte and an image of 32,768",
+                        "'{}' is played with './play --trial': the session program takes kind {} as unknown, \
+                         since a record's body holds at most 32,769 bytes, a kind byte and an image of 32,768",
                         name, card.number
                     ));
                 }

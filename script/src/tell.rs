@@ -1,5 +1,5 @@
-//! Messages and answers taken apart, in words. What a command means, and how wide an address is, depends on the kind of the
-//! card that is in; 0 is any that has no top address bit.
+//! Messages and answers taken apart, in words. What a command means, and how wide an address is, depends
+//! on the kind of the card that is in; 0 is told as one without a top address bit.
 
 use crate::cards;
 use crate::parameters;

@@ -14,7 +14,8 @@ pub const MOST_IMAGE: usize = 131_072;
 const ROOM: usize = 271;
 const FILL: u8 = 0xee;
 
-/// The raw record and the image of the card that is in. At first the record is zeros, which is none.
+/// The raw slot record and the image of the card that is in. At first the record is zeros, which a
+/// removal makes the empty one.
 #[derive(Default)]
 pub struct Kept {
     record: [u8; 32],
@@ -22,8 +23,8 @@ pub struct Kept {
 }
 
 impl Kept {
-    /// The case of a script's record: the call, the slot record, the buffer's length and fill, the message's and the image's
-    /// length, and both of these. The parser has seen to it that there are such calls, and the lengths are in the limits.
+    /// The case of a script's record: the call, the slot record, the buffer's length and fill, the message's
+    /// and the image's length, and both of these. The parser has kept out what is no call or over a limit.
     pub fn case(&self, record: &Record) -> Vec<u8> {
         let (call, message) = match record {
             Record::Message(message) => (0, &message[..]),

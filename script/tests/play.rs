@@ -124,9 +124,8 @@ fn a_check_fails_where_anything_differs() {
 }
 
 const USAGE: &str = "usage: play [--trial] [--check | --records | --bytes | --lines] FILE.script (--help tells more)";
-const NO_RECORDS: &str =
-    "--records and --bytes are for the session program: the trial program is handed with each call what \
-                          came of the one before, so that its input is made while it runs";
+const NO_RECORDS: &str = "--records and --bytes are for the session program: the trial program is handed with \
+    each call what came of the one before, so that its input is made while it runs";
 
 #[test]
 fn what_cannot_be_run() {

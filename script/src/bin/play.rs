@@ -19,9 +19,8 @@ macro_rules! say {
 }
 
 const USAGE: &str = "usage: play [--trial] [--check | --records | --bytes | --lines] FILE.script (--help tells more)";
-const NO_RECORDS: &str =
-    "--records and --bytes are for the session program: the trial program is handed with each call \
-                          what came of the one before, so that its input is made while it runs";
+const NO_RECORDS: &str = "--records and --bytes are for the session program: the trial program is handed with \
+    each call what came of the one before, so that its input is made while it runs";
 
 fn main() -> ExitCode {
     let words: Vec<String> = env::args().skip(1).collect();

@@ -190,14 +190,14 @@ fn cards_by_name_and_by_number() {
     assert_eq!(inserted("insert kind 0 image 01 02*3"), [0, 1, 2, 2, 2]);
 }
 
-/// Over the session program the large kinds are unknown ones: by name they are none, by number they have an image as it is
-/// given.
+/// Over the session program the large kinds are unknown ones: no card by name, and by number they have
+/// the image that is given.
 #[test]
 fn the_large_cards_over_the_session_program() {
     for (name, number) in [("i2c512", 10), ("i2c1024", 11)] {
         let text = format!(
-            "'{}' is played with './play --trial': the session program takes kind {} as unknown, since a record's body holds \
-             at most 32,769 bytes, a kind byte and an image of 32,768",
+            "'{}' is played with './play --trial': the session program takes kind {} as unknown, since a record's \
+             body holds at most 32,769 bytes, a kind byte and an image of 32,768",
             name, number
         );
         assert_eq!(fault(&format!("insert {}", name)), (1, text.clone()));

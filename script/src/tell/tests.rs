@@ -132,7 +132,8 @@ fn slot_records() {
     record[13..16].copy_from_slice(&[8, 0xff, 0x03]);
     assert_eq!(slot(&record), "kind 20, active, type 05, page 128, open, tries left 8, protected 1023");
     // A wrong reader may leave any bytes.
-    let wanted = "kind 255, FF for inactive or active, type FF, page 255, FF for closed or open, tries left 255, protected 65535";
+    let (active, open) = ("FF for inactive or active", "FF for closed or open");
+    let wanted = format!("kind 255, {}, type FF, page 255, {}, tries left 255, protected 65535", active, open);
     assert_eq!(slot(&[0xff; 32]), wanted);
 }
 
