@@ -1,5 +1,6 @@
 // Measures the library beside the C reader: the same messages to both, in turn, in one process.
 //
+//   bench agree          whether both give the same in every row, and what its name says: exit status 0, or 1 and a line
 //   bench time ROUNDS    the time of a call, and the ratio as the median, least and most of the rounds
 //   bench count ROUNDS   calls between marks on standard error, for an emulator that logs instructions there
 //   bench steps          the instructions of a call, counted by stepping through them one by one
@@ -23,8 +24,10 @@ void _exit(int status);
 typedef int32_t message_call(uint8_t *, size_t, uint8_t *, size_t, const uint8_t *, size_t, uint8_t *, size_t);
 typedef int32_t insert_call(uint8_t *, size_t, uint8_t, const uint8_t *, size_t);
 
-enum { I2C_SMALL = 1, I2C_256 = 2, I2C_LARGE = 9, SLE4428 = 20, SLE4418 = 21, SLE4442 = 30, SLE4432 = 31 };
-enum { ROWS = 160, LARGEST = 32768, CALLS = 4, TIMED_CALLS = 500, TIMED_RUNS = 8, MOST_ROUNDS = 999 };
+enum { I2C_SMALL = 1, I2C_256 = 2, I2C_32_KIB = 9, I2C_64_KIB = 10, I2C_LARGE = 11 };
+enum { SLE4428 = 20, SLE4418 = 21, SLE4442 = 30, SLE4432 = 31 };
+enum { ROWS = 200, LARGEST = 131072, BEHIND = 256 };
+enum { CALLS = 4, TIMED_CALLS = 500, TIMED_RUNS = 8, MOST_ROUNDS = 999 };
 
 // The card has `bits` in each protection byte, and before each call `poke` in each of the bytes from `poke_at` on. An
 // insertion has the kind in the place of the message's type.
@@ -38,7 +41,7 @@ struct row {
 
 static struct row rows[ROWS];
 static size_t row_count;
-static uint8_t record[32], image[LARGEST], answer[271];
+static uint8_t record[32], image[LARGEST + BEHIND], answer[271];
 
 // Parameter sets as the record has them: a protocol number and seven bytes.
 static const uint8_t default_set[8] = { 0, 0x11, 0x00, 0x00, 0x0a, 0x00 };
@@ -63,7 +66,9 @@ static const char *card_of(uint8_t kind) {
     case 0: return "none";
     case I2C_SMALL: return "I2C 128 bytes";
     case I2C_256: return "I2C 256 bytes";
-    case I2C_LARGE: return "I2C 32 KiB";
+    case I2C_32_KIB: return "I2C 32 KiB";
+    case I2C_64_KIB: return "I2C 64 KiB";
+    case I2C_LARGE: return "I2C 128 KiB";
     case SLE4428: return "SLE4428";
     case SLE4418: return "SLE4418";
     case SLE4432: return "SLE4432";
@@ -73,13 +78,19 @@ static const char *card_of(uint8_t kind) {
 
 static size_t counter_of(uint8_t kind) { return kind == SLE4442 ? 260 : 0x3fd; }
 
-static uint8_t memory_byte(size_t at) { return (uint8_t)(at * 7 + 1); }
+// They come again after so many, which is no part of 65536: on the 128 KiB card each byte of the upper half is another
+// than that of the lower half in the same place.
+enum { PERIOD = 251 };
+static uint8_t memory_byte(size_t at) { return (uint8_t)(at % PERIOD + 1); }
 
 // A card with these protection bytes, but that an SLE4428's 3FDh is not protected, and, where it has a code, a full counter
-// and the code 11 22 33.
+// and the code 11 22 33. Bytes behind the image are made too: no call is to change them.
 static void make_card(uint8_t kind, uint8_t bits) {
-    for (size_t i = 0; i < LARGEST; i++)
+    size_t count = image_len_of(kind) + BEHIND;
+    for (size_t i = 0; i < PERIOD; i++)
         image[i] = memory_byte(i);
+    for (size_t made = PERIOD; made < count; made *= 2)
+        memcpy(image + made, image, made < count - made ? made : count - made);
     if (type_of(kind) == 6) {
         memset(image + 256, bits, 4);
         memcpy(image + 260, has_code(kind) ? "\x07\x11\x22\x33" : "\0\0\0", 4);
@@ -103,7 +114,7 @@ static unsigned ones(uint8_t byte) {
 static unsigned protected_bytes(uint8_t kind) {
     size_t first = type_of(kind) == 6 ? 256 : 1024, last = first + (type_of(kind) == 6 ? 4 : 128);
     unsigned n = 0;
-    for (size_t i = first; kind >= SLE4428 && i < last; i++)
+    for (size_t i = first; i < last; i++)
         n += 8 - ones(image[i]);
     return n;
 }
@@ -112,6 +123,10 @@ static unsigned protected_bytes(uint8_t kind) {
 
 // A row on a card whose type is selected, with a message of the type and 10 + n bytes.
 static struct row *add(const char *name, uint8_t kind, uint8_t type, size_t n) {
+    if (row_count == ROWS) {
+        dprintf(2, "bench: there are more than %d rows\n", ROWS);
+        _exit(2);
+    }
     struct row *row = &rows[row_count++];
     row->name = name;
     row->kind = kind;
@@ -135,8 +150,10 @@ static struct row *add(const char *name, uint8_t kind, uint8_t type, size_t n) {
     return row;
 }
 
-// The record gets the counts of its card. What stands there before is by how much the row has them wrong.
+// The record gets the counts of its card, on I2C 0. What stands there before is by how much the row has them wrong.
 static void store_counts(struct row *row) {
+    if (row->kind < SLE4428)
+        return;
     make_card(row->kind, row->bits);
     memset(image + row->poke_at, row->poke, row->poke_len);
     unsigned count = protected_bytes(row->kind) + row->record[14];
@@ -178,10 +195,14 @@ static void add_set(const char *name, uint8_t kind, const uint8_t *set) {
     memcpy(row->message + 10, set + 1, n);
 }
 
-static void add_read(const char *name, uint8_t kind, size_t at, size_t p3) { add_command(name, kind, 0xb0, at, p3, 0); }
+// From 10000h on by B1.
+static void add_read(const char *name, uint8_t kind, size_t at, size_t p3) {
+    add_command(name, kind, at < 0x10000 ? 0xb0 : 0xb1, at, p3, 0);
+}
 
+// From 10000h on by D1.
 static struct row *add_write(const char *name, uint8_t kind, size_t at, size_t p3) {
-    struct row *row = add_command(name, kind, 0xd0, at, p3, p3);
+    struct row *row = add_command(name, kind, at < 0x10000 ? 0xd0 : 0xd1, at, p3, p3);
     return has_code(kind) ? open_card(row) : row;
 }
 
@@ -216,23 +237,43 @@ static void make_rows(void) {
     uint8_t protecting[] = { SLE4442, SLE4428, SLE4418, SLE4432 };
 
     add_read("read 1 byte", I2C_SMALL, 0x20, 1);
+    add_read("read 1 byte", I2C_32_KIB, 0x4120, 1);
     add_read("read 1 byte", I2C_LARGE, 0x4120, 1);
+    add_read("read 1 byte by B1", I2C_LARGE, 0x14120, 1);
     add_read("read 16 bytes", I2C_SMALL, 0x20, 16);
+    add_read("read 16 bytes", I2C_32_KIB, 0x4120, 16);
     add_read("read 16 bytes", I2C_LARGE, 0x4120, 16);
+    add_read("read 16 bytes over 0FFFFh/10000h", I2C_LARGE, 0xfff8, 16);
+    add_read("read 16 bytes by B1", I2C_LARGE, 0x14120, 16);
     add_read("read 255 bytes", I2C_256, 0, 255);
+    add_read("read 255 bytes", I2C_32_KIB, 0x4100, 255);
     add_read("read 255 bytes", I2C_LARGE, 0x4100, 255);
+    add_read("read 255 bytes over 0FFFFh/10000h", I2C_LARGE, 0xff80, 255);
+    add_read("read 255 bytes by B1", I2C_LARGE, 0x14100, 255);
     add_read("read 255 bytes", SLE4442, 0, 255);
     add_read("read 255 bytes, closed", SLE4428, 0x301, 255);
     add_read("read 255 bytes", SLE4418, 0x301, 255);
 
     add_write("write 1 byte", I2C_SMALL, 0x20, 1);
-    add_write("write 1 byte", I2C_LARGE, 0x4120, 1);
+    add_write("write 1 byte", I2C_32_KIB, 0x4120, 1);
     add_write("write 16 bytes", I2C_SMALL, 0x20, 16);
-    add_write("write 16 bytes", I2C_LARGE, 0x4120, 16);
+    add_write("write 16 bytes", I2C_32_KIB, 0x4120, 16);
     add_write("write 255 bytes", I2C_256, 0, 255);
-    add_write("write 255 bytes", I2C_LARGE, 0x4100, 255);
+    add_write("write 255 bytes", I2C_32_KIB, 0x4100, 255);
     add_write("write 255 bytes, reader page 128", I2C_256, 0, 255)->record[3] = 128;
+    add_write("write 255 bytes, reader page 128", I2C_32_KIB, 0x4100, 255)->record[3] = 128;
+    add_write("write 1 byte", I2C_LARGE, 0x4120, 1);
+    add_write("write 1 byte, reader page 128", I2C_LARGE, 0x4120, 1)->record[3] = 128;
+    add_write("write 1 byte by D1", I2C_LARGE, 0x14120, 1);
+    add_write("write 16 bytes", I2C_LARGE, 0x4120, 16);
+    add_write("write 16 bytes, reader page 128", I2C_LARGE, 0x4120, 16)->record[3] = 128;
+    add_write("write 16 bytes over 0FFFFh/10000h", I2C_LARGE, 0xfff8, 16);
+    add_write("write 16 bytes by D1", I2C_LARGE, 0x14120, 16);
+    add_write("write 255 bytes", I2C_LARGE, 0x4100, 255);
     add_write("write 255 bytes, reader page 128", I2C_LARGE, 0x4100, 255)->record[3] = 128;
+    add_write("write 255 bytes over 0FFFFh/10000h", I2C_LARGE, 0xff80, 255);
+    add_write("write 255 bytes by D1", I2C_LARGE, 0x14100, 255);
+    add_write("write 255 bytes by D1, reader page 128", I2C_LARGE, 0x14100, 255)->record[3] = 128;
     add_write("write 16 bytes", SLE4442, 0x10, 16);
     add_write("write 16 bytes", SLE4428, 0x10, 16);
     add_write("write 255 bytes", SLE4442, 0, 255);
@@ -295,15 +336,19 @@ static void make_rows(void) {
         row = &rows[row_count - 1];
         row->message_len = 14;
         row->message[1] = 4;
-        add_command("step 5: not this card's", ends[i], 0xb1, 0, 4, 0);
-        add_command("step 7: past the memory", ends[i], 0xb0, image_len_of(ends[i]) - 15, 16, 0);
+        add_command("step 5: not this card's", ends[i], 0xb2, 0, 4, 0);
+        add_read("step 7: past the memory", ends[i], image_len_of(ends[i]) - 15, 16);
     }
+    add_command("step 5: B1", I2C_SMALL, 0xb1, 0, 4, 0);
+    add_command("step 5: B1", I2C_64_KIB, 0xb1, 0, 4, 0);
+    add_read("step 7: past the memory", I2C_64_KIB, 0xfff1, 16);
     add("refused, 3: last byte of the image", SLE4432, 0x65, 0)->poke_at = 263;
     for (size_t i = 0; i < 2; i++)
         add("refused, 4: tries left", codes[i], 0x65, 0)->record[13] = 1;
     for (size_t i = 0; i < 4; i++)
         add("refused, 4: number of protected bytes", protecting[i], 0x65, 0)->record[14] = 1;
-    add("refused, 4: number of protected bytes", I2C_SMALL, 0x65, 0)->record[14] = 1;
+    for (size_t i = 0; i < 2; i++)
+        add("refused, 4: number of protected bytes", ends[i], 0x65, 0)->record[14] = 1;
     add_command("step 5: not this card's", SLE4432, 0x20, 0, 3, 3);
     for (size_t i = 0; i < 2; i++) {
         add_command("step 9: write while closed", codes[i], 0xd0, 0x10, 16, 16);
@@ -331,6 +376,7 @@ static void make_rows(void) {
     row->image_len = 0;
     memset(row->record, 0, 3);
     add_insertion(I2C_SMALL);
+    add_insertion(I2C_64_KIB);
     add_insertion(I2C_LARGE);
     for (size_t i = 0; i < 4; i++)
         add_insertion(protecting[i]);
@@ -402,9 +448,10 @@ static int is_as_named(const char *name, int32_t result) {
 
 // Whether both readers give the same result, record, image and answer buffer in every row, and one that its name says.
 static int both_agree(void) {
-    static uint8_t seen_image[LARGEST];
+    static uint8_t seen_image[sizeof image];
     uint8_t seen_record[32], seen_answer[sizeof answer];
     for (size_t i = 0; i < row_count; i++) {
+        size_t seen = image_len_of(rows[i].kind) + BEHIND;
         make_card(rows[i].kind, rows[i].bits);
         memset(answer, 0x5a, sizeof answer);
         int32_t result = call_once(call_of(&rows[i], LIBRARY), &rows[i]);
@@ -413,12 +460,12 @@ static int both_agree(void) {
             return 0;
         }
         memcpy(seen_record, record, sizeof record);
-        memcpy(seen_image, image, sizeof image);
+        memcpy(seen_image, image, seen);
         memcpy(seen_answer, answer, sizeof answer);
         make_card(rows[i].kind, rows[i].bits);
         memset(answer, 0x5a, sizeof answer);
         if (call_once(call_of(&rows[i], PLAIN), &rows[i]) != result || memcmp(seen_record, record, sizeof record) ||
-            memcmp(seen_image, image, sizeof image) || memcmp(seen_answer, answer, sizeof answer)) {
+            memcmp(seen_image, image, seen) || memcmp(seen_answer, answer, sizeof answer)) {
             dprintf(2, "bench: the readers differ: %s, %s\n", rows[i].name, card_of(rows[i].kind));
             return 0;
         }
@@ -444,7 +491,7 @@ static int both_agree_on(uint8_t in, uint8_t fill, size_t length, uint8_t kind) 
 
 // The same of cards that go in and out, over records whatever is in them, with more and fewer bytes protected.
 static int both_agree_on_cards(void) {
-    static const uint8_t kinds[] = { I2C_SMALL, I2C_LARGE, SLE4428, SLE4418, SLE4442, SLE4432 };
+    static const uint8_t kinds[] = { I2C_SMALL, I2C_64_KIB, I2C_LARGE, SLE4428, SLE4418, SLE4442, SLE4432 };
     for (size_t i = 0; i < sizeof kinds; i++)
         for (unsigned fill = 0; fill < 256; fill += 51)
             for (size_t length = 31; length <= 32; length++)
@@ -609,8 +656,8 @@ int main(int argc, char **argv) {
     for (const char *digit = argc == 3 ? argv[2] : ""; *digit >= '0' && *digit <= '9' && rounds < 100; digit++)
         rounds = rounds * 10 + (unsigned)(*digit - '0');
     make_rows();
-    if (!both_agree() || !both_agree_on_cards())
-        return 1;
+    if (argc == 2 && !strcmp(argv[1], "agree"))
+        return !both_agree() || !both_agree_on_cards();
     if (argc == 3 && rounds > 0 && !strcmp(argv[1], "time"))
         time_rows(rounds);
     else if (argc == 3 && rounds > 0 && !strcmp(argv[1], "count"))
@@ -618,7 +665,7 @@ int main(int argc, char **argv) {
     else if (argc == 2 && !strcmp(argv[1], "steps"))
         return step_rows();
     else {
-        dprintf(2, "usage: bench time ROUNDS | count ROUNDS | steps\n");
+        dprintf(2, "usage: bench agree | time ROUNDS | count ROUNDS | steps\n");
         return 2;
     }
     return 0;

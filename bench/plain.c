@@ -26,7 +26,7 @@ enum {
 // The commands in a row, so that a chip's commands are a mask; 0 is none. A4 is any chip's, and B0 to
 // B2 bring no data.
 enum { A4 = 1, B0, B1, B2, C01, D0, D1, C20, D2 };
-enum { OF_I2C = 1 << A4 | 1 << C01 | 1 << B0 | 1 << D0 };
+enum { OF_I2C = 1 << A4 | 1 << C01 | 1 << B0 | 1 << D0, OF_I2C_17 = OF_I2C | 1 << B1 | 1 << D1 };
 enum { OF_NO_CODE = 1 << A4 | 1 << B0 | 1 << B2 | 1 << D0 | 1 << D1 };
 enum { OF_4428 = OF_NO_CODE | 1 << B1 | 1 << C20, OF_4442 = OF_4428 | 1 << D2 };
 
@@ -39,19 +39,25 @@ static const uint8_t place_of[256] = {
 // counter of 0 is no code card, and where such a card has bits, the counter's place is past the image. The tries
 // are those of a full counter.
 struct chip {
-    uint16_t image, memory, commands, counter, protection, protectable, d1_end;
-    uint8_t select, page, full, tries, code_len;
+    uint32_t image, memory;
+    uint16_t commands, counter, protection, protectable, d1_end, page;
+    uint8_t select, full, tries, code_len;
 };
 
-#define I2C(bytes, page, select) { bytes, bytes, OF_I2C, 0, 0, 0, 0, select, page, 0, 0, 0 }
+// On the I2C card with 17 address bits B1 and D1 are B0 and D0 with the top bit.
+enum { TOP_BIT = 0x10000 };
+
+#define I2C(bytes, page, select) { bytes, bytes, OF_I2C, 0, 0, 0, 0, page, select, 0, 0, 0 }
 static const struct chip chips[] = {
     [1] = I2C(128, 8, 1),     [2] = I2C(256, 8, 1),     [3] = I2C(512, 16, 1),
     [4] = I2C(1024, 16, 1),   [5] = I2C(2048, 16, 1),   [6] = I2C(4096, 32, 2),
     [7] = I2C(8192, 32, 2),   [8] = I2C(16384, 64, 2),  [9] = I2C(32768, 64, 2),
-    [SLE4428] = { 1152, 1024, OF_4428, 0x3fd, 1024, 1024, 0x3fd, TYPE_05, 0, 0xff, 8, 2 },
-    [SLE4418] = { 1152, 1024, OF_NO_CODE, 1152, 1024, 1024, 1024, TYPE_05, 0, 0, 0, 0 },
-    [SLE4442] = { 264, 256, OF_4442, 260, 256, 32, 32, TYPE_06, 0, 0x07, 3, 3 },
-    [SLE4432] = { 264, 256, OF_NO_CODE, 264, 256, 32, 32, TYPE_06, 0, 0, 0, 0 },
+    [10] = I2C(65536, 128, 2),
+    [11] = { 131072, 131072, OF_I2C_17, 0, 0, 0, 0, 256, 2, 0, 0, 0 },
+    [SLE4428] = { 1152, 1024, OF_4428, 0x3fd, 1024, 1024, 0x3fd, 0, TYPE_05, 0xff, 8, 2 },
+    [SLE4418] = { 1152, 1024, OF_NO_CODE, 1152, 1024, 1024, 1024, 0, TYPE_05, 0, 0, 0 },
+    [SLE4442] = { 264, 256, OF_4442, 260, 256, 32, 32, 0, TYPE_06, 0x07, 3, 3 },
+    [SLE4432] = { 264, 256, OF_NO_CODE, 264, 256, 32, 32, 0, TYPE_06, 0, 0, 0 },
 };
 
 // The chip of a kind that the image is one of, or none.
@@ -314,6 +320,21 @@ static inline unsigned command(uint8_t *restrict record, const struct chip *chip
             return WRONG_VALUE;
         record[PAGE] = (uint8_t)(1 << data[0]);
         return DONE;
+    case B1:
+        if (!chip->page) {
+            if (p3 != chip->code_len + 1u)
+                return WRONG_LENGTH;
+            if (at != 0)
+                return WRONG_PLACE;
+            out[0] = image[chip->counter];
+            out[1] = out[2] = 0;
+            if (p3 == 4)
+                out[3] = 0;
+            return BEHIND(p3, DONE);
+        }
+        at += TOP_BIT;
+        end += TOP_BIT;
+        // fall through
     case B0:
         if (p3 == 0)
             return WRONG_LENGTH;
@@ -326,16 +347,6 @@ static inline unsigned command(uint8_t *restrict record, const struct chip *chip
             if (end > 0x3ff)
                 out[0x3ff - at] = 0;
         }
-        return BEHIND(p3, DONE);
-    case B1:
-        if (p3 != chip->code_len + 1u)
-            return WRONG_LENGTH;
-        if (at != 0)
-            return WRONG_PLACE;
-        out[0] = image[chip->counter];
-        out[1] = out[2] = 0;
-        if (p3 == 4)
-            out[3] = 0;
         return BEHIND(p3, DONE);
     case B2:
         if (chip->select == TYPE_06) {
@@ -352,6 +363,20 @@ static inline unsigned command(uint8_t *restrict record, const struct chip *chip
             return WRONG_PLACE;
         read_bits(image + 1024, at, p3, out);
         return BEHIND(p3, DONE);
+    case D1:
+        if (!chip->page) {
+            if (p3 == 0)
+                return WRONG_LENGTH;
+            if (end > chip->d1_end)
+                return WRONG_PLACE;
+            if (is_locked(record, chip))
+                return NOT_ALLOWED;
+            store_protected(record, stored_protected(record) + protect_equal(image, image + chip->protection, at, end, data));
+            return DONE;
+        }
+        at += TOP_BIT;
+        end += TOP_BIT;
+        // fall through
     case D0:
         if (p3 == 0)
             return WRONG_LENGTH;
@@ -366,15 +391,6 @@ static inline unsigned command(uint8_t *restrict record, const struct chip *chip
         if (is_locked(record, chip))
             return NOT_ALLOWED;
         return store_unprotected(chip, image, at, end, data) ? DONE : NOT_AS_SENT;
-    case D1:
-        if (p3 == 0)
-            return WRONG_LENGTH;
-        if (end > chip->d1_end)
-            return WRONG_PLACE;
-        if (is_locked(record, chip))
-            return NOT_ALLOWED;
-        store_protected(record, stored_protected(record) + protect_equal(image, image + chip->protection, at, end, data));
-        return DONE;
     case C20: {
         if (p3 != chip->code_len)
             return WRONG_LENGTH;

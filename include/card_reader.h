@@ -55,6 +55,8 @@ extern "C" {
 #define CARD_READER_I2C_64K 7    /* 8192 */
 #define CARD_READER_I2C_128K 8   /* 16384 */
 #define CARD_READER_I2C_256K 9   /* 32768 */
+#define CARD_READER_I2C_512K 10  /* 65536 */
+#define CARD_READER_I2C_1024K 11 /* 131072, the largest image: P1P2 with B0 and D0 is its lower half, with B1 and D1 its upper */
 #define CARD_READER_SLE4428 20   /* 1152: 1024 memory bytes (3FDh counter, 3FEh and 3FFh code), 128 protection bytes */
 #define CARD_READER_SLE4418 21   /* 1152: 1024 memory bytes, 128 protection bytes; no code */
 #define CARD_READER_SLE4442 30   /* 264: 256 memory bytes, 4 protection bytes, counter, 3 code bytes */

@@ -87,9 +87,9 @@ static const char *const subjects[SUBJECTS] = {
 
 /* ---- the cards */
 
-/* From BITS_18 on they have protection bits, from CODE_28 on a code too. */
-enum { NONE, I2C, BITS_18, BITS_32, CODE_28, CODE_42 };
-enum { KINDS = 14, LARGEST = 32768 };
+/* I2C_17 has 17 address bits. From BITS_18 on they have protection bits, from CODE_28 on a code too. */
+enum { NONE, I2C, I2C_17, BITS_18, BITS_32, CODE_28, CODE_42 };
+enum { KINDS = 16, LARGEST = 131072 };
 
 static const struct kind {
     const char *name;
@@ -107,6 +107,8 @@ static const struct kind {
     { "I2C 64 kbit", CARD_READER_I2C_64K, 2, 8192, 8192, I2C },
     { "I2C 128 kbit", CARD_READER_I2C_128K, 2, 16384, 16384, I2C },
     { "I2C 256 kbit", CARD_READER_I2C_256K, 2, 32768, 32768, I2C },
+    { "I2C 512 kbit", CARD_READER_I2C_512K, 2, 65536, 65536, I2C },
+    { "I2C 1024 kbit", CARD_READER_I2C_1024K, 2, 131072, 131072, I2C_17 },
     { "SLE4428", CARD_READER_SLE4428, 5, 1152, 1024, CODE_28 },
     { "SLE4418", CARD_READER_SLE4418, 5, 1152, 1024, BITS_18 },
     { "SLE4442", CARD_READER_SLE4442, 6, 264, 256, CODE_42 },
@@ -125,6 +127,7 @@ static const struct {
 } families[] = {
     { 0, 0, 0, 0, 0, 0, 0 },
     { OF(A4) | OF(C01) | OF(B0) | OF(D0), 0, 0, 0, 0, 0, 0 },
+    { OF(A4) | OF(C01) | OF(B0) | OF(B1) | OF(D0) | OF(D1), 0, 0, 0, 0, 0, 0 },
     { OF(A4) | OF(B0) | OF(B2) | OF(D0) | OF(D1), 0, 0, 0, 128, 0, 0 },
     { OF(A4) | OF(B0) | OF(B2) | OF(D0) | OF(D1), 0, 0, 0, 4, 263, 0x01 },
     { COMMANDS & ~(OF(C01) | OF(D2)), 0x3fd, 0xff, 2, 128, 1024 + 0x3fd / 8, 0xdf },
@@ -177,7 +180,7 @@ static void put_counts(uint8_t *counts, const uint8_t *from, const struct kind *
 /* What came: a status word, of which 90xx stands for a code command's 90 with tries left; or one of these. */
 enum { DONE = 0, TRIES = 0x90ff, FAILED = 0x20000, REFUSED = 0x30000, NO_RESULT = 0x40000 };
 
-enum { IS_NONE = 1 << NONE, IS_I2C = 1 << I2C, IS_42 = 1 << CODE_42 };
+enum { IS_NONE = 1 << NONE, IS_17 = 1 << I2C_17, IS_I2C = 1 << I2C | IS_17, IS_42 = 1 << CODE_42 };
 enum { IS_BITS = 1 << BITS_18 | 1 << BITS_32, IS_CODE = 1 << CODE_28 | IS_42 };
 enum { IS_CARD = IS_I2C | IS_BITS | IS_CODE, ANY = IS_NONE | IS_CARD };
 /* For a rule about all commands that the card has, or lacks. */
@@ -215,7 +218,9 @@ static const struct { unsigned cards, subjects, outcome; } rules[] = {
     { IS_CARD, COMMANDS & ~OF(A4), 0x6985 },
     { IS_CARD, NOT_ITS, 0x6d00 },
     { IS_CARD, ITS_OWN, 0x6700 },
-    { IS_CARD, ITS_OWN, 0x6b00 },
+    { IS_CARD & ~IS_17, ITS_OWN, 0x6b00 },
+    /* B0 and D0 name no place past a memory of 17 address bits. */
+    { IS_17, OF(A4) | OF(C01) | OF(B1) | OF(D1), 0x6b00 },
     { IS_CARD, OF(A4), 0x6a80 },
     { IS_I2C, OF(C01), 0x6a80 },
     { IS_CODE, OF(D0) | OF(D1), 0x6982 },
@@ -352,8 +357,8 @@ static void call(size_t record_length, size_t image_length, size_t length, size_
     outcome = outcome_of(length, result, &subject);
     mark(kind_in, subject, outcome);
     keep(OF_MESSAGE, depth, kind_in, outcome, kept_record, message, length);
-    /* These alone change the image. */
-    if (subject >= D0 && subject <= D2)
+    /* These alone change the image, and not where they are refused. */
+    if (subject >= D0 && subject <= D2 && (outcome >> 8 == 0x90 || outcome == 0x6581))
         memcpy(image, kept_image, kinds[kind_in].image);
 }
 
@@ -507,7 +512,7 @@ static void send_miscounted(void)
 /* What is turned down: the length of each slice, an image that is no card, a record with another byte in each place. */
 static void send_refused(void)
 {
-    static const uint8_t values[] = { 0, 1, 2, 5, 6, 8, 16, 20, 21, 30, 31, 128, 255 };
+    static const uint8_t values[] = { 0, 1, 2, 5, 6, 8, 10, 11, 16, 20, 21, 30, 31, 128, 255 };
     size_t i, j, size = kinds[kind_in].image, family = kinds[kind_in].family;
     begin(0x65, 0);
     for (i = 0; i < sizeof answer; i += 45)
@@ -565,7 +570,7 @@ static void on_each_state(int open_too)
     if (kind_in == NONE)
         return;
     send_all(1, 0, 8, 0, t1_set);
-    for (page = 8; page <= 128; page *= kinds[kind_in].family == I2C ? 2 : 16)
+    for (page = 8; page <= 128; page *= kinds[kind_in].family < BITS_18 ? 2 : 16)
         send_all(1, 1, (uint8_t)page, 0, page == 128 ? t1_set : t0_set);
     if (open_too)
         send_all(1, 1, 8, 1, t0_set);
