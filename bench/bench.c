@@ -438,12 +438,26 @@ static message_call *volatile inserting[] = { insert_nothing, insert_library, in
 
 static message_call *call_of(const struct row *row, int which) { return (row->inserts ? inserting : messages)[which]; }
 
-// Whether a row came to what its name says: `refused, N: ..` to that refusal, any other to an answer or a card that is in.
-static int is_as_named(const char *name, int32_t result) {
-    const char *refused = "refused, ";
-    for (; *refused && *refused == *name; refused++)
+static int begins(const char *name, const char *with) {
+    for (; *with && *with == *name; with++)
         name++;
-    return *refused ? result >= 0 : result == '0' - *name;
+    return !*with;
+}
+
+// Whether a row came to what its name says: `refused, N: ..` to that refusal, `fault: ..` to a failed message, `step N: ..` to
+// a status word that refuses; any other to a card that is in, or to an answer that is none of these.
+static int is_as_named(const struct row *row, int32_t result) {
+    if (begins(row->name, "refused, "))
+        return result == '0' - row->name[9];
+    if (row->inserts)
+        return result == 0;
+    if (result < 10)
+        return 0;
+    int failed = answer[7] >> 6 & 1;
+    if (failed || begins(row->name, "fault: "))
+        return failed && begins(row->name, "fault: ");
+    unsigned word = (unsigned)answer[result - 2] << 8 | answer[result - 1];
+    return (row->message[0] == 0x6f && word >> 8 != 0x90 && word != 0x6581) == begins(row->name, "step ");
 }
 
 // Whether both readers give the same result, record, image and answer buffer in every row, and one that its name says.
@@ -455,8 +469,9 @@ static int both_agree(void) {
         make_card(rows[i].kind, rows[i].bits);
         memset(answer, 0x5a, sizeof answer);
         int32_t result = call_once(call_of(&rows[i], LIBRARY), &rows[i]);
-        if (!is_as_named(rows[i].name, result)) {
-            dprintf(2, "bench: the library returns %d: %s, %s\n", (int)result, rows[i].name, card_of(rows[i].kind));
+        if (!is_as_named(&rows[i], result)) {
+            dprintf(2, "bench: not what it says, the library returns %d: %s, %s\n", (int)result, rows[i].name,
+                    card_of(rows[i].kind));
             return 0;
         }
         memcpy(seen_record, record, sizeof record);

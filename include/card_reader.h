@@ -45,7 +45,7 @@ extern "C" {
 #define CARD_READER_ROOM 271
 #define CARD_READER_LONGEST 267
 
-/* The kinds, with their image bytes. */
+/* The kinds, with their image bytes, at most 131072. */
 #define CARD_READER_I2C_1K 1     /* 128 */
 #define CARD_READER_I2C_2K 2     /* 256 */
 #define CARD_READER_I2C_4K 3     /* 512 */
@@ -56,7 +56,7 @@ extern "C" {
 #define CARD_READER_I2C_128K 8   /* 16384 */
 #define CARD_READER_I2C_256K 9   /* 32768 */
 #define CARD_READER_I2C_512K 10  /* 65536 */
-#define CARD_READER_I2C_1024K 11 /* 131072, the largest image: P1P2 with B0 and D0 is its lower half, with B1 and D1 its upper */
+#define CARD_READER_I2C_1024K 11 /* 131072: 17 address bits */
 #define CARD_READER_SLE4428 20   /* 1152: 1024 memory bytes (3FDh counter, 3FEh and 3FFh code), 128 protection bytes */
 #define CARD_READER_SLE4418 21   /* 1152: 1024 memory bytes, 128 protection bytes; no code */
 #define CARD_READER_SLE4442 30   /* 264: 256 memory bytes, 4 protection bytes, counter, 3 code bytes */
@@ -86,6 +86,8 @@ extern "C" {
  *   answer   afterwards the answer (CCID Bulk-IN) from its first byte on; bytes past the answer keep their values
  * Types: 62h (power on) and 6Fh (transfer), answered by 80h; 63h (power off) and 65h (slot status), by 81h; 61h, 6Ch and
  * 6Dh (set, get and reset parameters), by 82h. Any other is answered by 81h, as failed.
+ * Of the I2C kinds CARD_READER_I2C_1024K alone has B1 and D1: they read and write as B0 and D0 do, at 10000h + P1P2. B0 and
+ * D0 begin at P1P2 and run on over 0FFFFh/10000h.
  * Returns the answer's length, 10 to CARD_READER_LONGEST, or, tested in this order, -1, -2, -3 or -4. */
 int32_t card_reader_message(uint8_t *record, size_t record_length, uint8_t *image, size_t image_length,
                             const uint8_t *message, size_t message_length, uint8_t *answer, size_t answer_length);
