@@ -1,15 +1,42 @@
-//! A case of the trial program: a raw slot record, an answer buffer, a message and an image, and
-//! the line that shows all of them after the call.
+//! A case of the trial program: a call, a raw slot record, an answer buffer, a message and an image,
+//! and the line that shows all of them after the call.
 
 use crate::parameters::Parameters;
 use crate::reader::{self, Chip, Slot};
 use crate::step::hex;
 
 /// The fixed part in front of message and image, and the limits.
-pub const HEADER: usize = 41;
+pub const HEADER: usize = 42;
 pub const LONGEST_BUFFER: usize = 600;
 pub const LONGEST_MESSAGE: usize = 600;
-pub const LONGEST_IMAGE: usize = 32_768;
+pub const LONGEST_IMAGE: usize = 131_072;
+
+/// What is called.
+#[derive(Clone, Copy, Debug, PartialEq, Eq)]
+pub enum Call {
+    Message,
+    /// The message is the kind byte.
+    Insertion,
+    /// The message is empty, and the image is not handed to the call.
+    Removal,
+}
+use Call::{Insertion, Message, Removal};
+
+impl Call {
+    /// The call of a byte.
+    pub fn of(byte: u8) -> Option<Call> {
+        [Message, Insertion, Removal].get(usize::from(byte)).copied()
+    }
+
+    /// Whether a message of so many bytes may stand in its case.
+    pub fn takes(self, length: usize) -> bool {
+        match self {
+            Message => length <= LONGEST_MESSAGE,
+            Insertion => length == 1,
+            Removal => length == 0,
+        }
+    }
+}
 
 /// A raw slot record: kind, active, selected type, reader page, open, protocol number, the bytes of
 /// the parameter set, tries left, number of protected bytes (low byte first); the rest is 00h.
@@ -52,6 +79,7 @@ pub fn slot_of(record: &[u8; RECORD]) -> Slot {
 
 #[derive(Clone)]
 pub struct Case {
+    pub call: Call,
     pub record: [u8; RECORD],
     pub buffer: usize,
     pub fill: u8,
@@ -62,7 +90,9 @@ pub struct Case {
 impl Case {
     /// The case as it stands on standard input.
     pub fn bytes(&self) -> Vec<u8> {
-        let mut bytes = self.record.to_vec();
+        let mut bytes = Vec::with_capacity(HEADER + self.message.len() + self.image.len());
+        bytes.push(self.call as u8);
+        bytes.extend_from_slice(&self.record);
         bytes.extend_from_slice(&(self.buffer as u16).to_le_bytes());
         bytes.push(self.fill);
         bytes.extend_from_slice(&(self.message.len() as u16).to_le_bytes());
@@ -94,19 +124,41 @@ impl Case {
     pub fn line(&self) -> String {
         let mut record = self.record;
         let mut answer = vec![self.fill; self.buffer];
-        let mut image = self.image.clone();
-        let (number, length) = match message(&mut record, &mut image, &self.message, &mut answer) {
+        // A message alone may change the image.
+        let mut image = Vec::new();
+        let result = match self.call {
+            Message => {
+                image = self.image.clone();
+                message(&mut record, &mut image, &self.message, &mut answer)
+            }
+            // 0 is no kind.
+            Insertion => insertion(&mut record, self.message.first().copied().unwrap_or(0), &self.image),
+            Removal => {
+                record = raw(&Slot::empty());
+                Ok(0)
+            }
+        };
+        let (number, length) = match result {
             Ok(length) => (0, length),
             Err(number) => (number, 0),
         };
         let shown = if answer.is_empty() { "-".to_string() } else { hex(&answer) };
         let mut line = format!("{} {} {} {}", number, length, hex(&record), shown);
-        for (address, (before, after)) in self.image.iter().zip(&image).enumerate() {
+        for (k, (before, after)) in self.image.chunks(256).zip(image.chunks(256)).enumerate() {
             if before != after {
-                line.push_str(&format!(" {:04x}={:02x}", address, after));
+                tell_changed(&mut line, 256 * k, before, after);
             }
         }
         line
+    }
+}
+
+/// Adds ` ADDRESS=VALUE` for each byte that changed, from an address on.
+fn tell_changed(line: &mut String, first: usize, before: &[u8], after: &[u8]) {
+    for (address, (before, after)) in (first..).zip(before.iter().zip(after)) {
+        if before != after {
+            line.push_str(&format!(" {:04x}={:02x}", address, after));
+        }
     }
 }
 
@@ -121,4 +173,12 @@ fn message(record: &mut [u8; RECORD], image: &mut [u8], message: &[u8], answer: 
     let length = reader::message(&mut slot, image, message, answer)?;
     *record = raw(&slot);
     Ok(length)
+}
+
+/// A card is put in over a raw slot record, of which the kind alone is asked.
+fn insertion(record: &mut [u8; RECORD], kind: u8, image: &[u8]) -> Result<usize, u8> {
+    let mut slot = slot_of(record);
+    reader::insert(&mut slot, kind, image)?;
+    *record = raw(&slot);
+    Ok(0)
 }

@@ -1,16 +1,19 @@
 //! Counts what random sessions and cases reached, and holds a run to what it has to reach: every
-//! bError, every status word, every command on every type, or kind with protection bits, every way
-//! that bytes of a written range are protected, every fault of a parameter set, what tries left and
-//! number of protected bytes show, what changes and what keeps them, every refusal.
+//! bError, every status word, every command on every type, or kind with protection bits or of a large
+//! chip, every way that bytes of a written range are protected, every part of a large memory, every
+//! fault of a parameter set, what tries left and number of protected bytes show, what changes and
+//! what keeps them, every refusal; of trial cases, insertions and removals over any record too.
 
 mod counts;
+mod insertions;
+mod large;
 mod parameters;
 mod writes;
 
 use crate::case::{slot_of, Case, RECORD, REST};
 use crate::parameters::Parameters;
 use crate::random::{CASE_ENDINGS, ENDINGS, RECORD_FAULTS, SET_FAULTS};
-use crate::reader::{Chip, Slot, CHIPS};
+use crate::reader::{Chip, Slot, CHIPS, LARGE, TOP_BIT};
 use std::collections::BTreeMap;
 use std::fmt;
 
@@ -42,8 +45,8 @@ impl Before {
     fn on(&self) -> On {
         match self.slot.selected {
             0x00 => Nothing,
-            0x05 | 0x06 => Kind(self.slot.kind),
-            selected => Type(selected),
+            0x01 | 0x02 if !LARGE.contains(&self.slot.kind) => Type(self.slot.selected),
+            _ => Kind(self.slot.kind),
         }
     }
 
@@ -64,8 +67,9 @@ impl Before {
 const SUPPORTED: [&str; 7] = ["61h", "62h", "63h", "65h", "6Ch", "6Dh", "6Fh"];
 const INS: [u8; 9] = [0xa4, 0x01, 0xb0, 0xb1, 0xb2, 0xd0, 0xd1, 0x20, 0xd2];
 
-/// What a command is sent to: no selected type, an I2C type, or a kind with protection bits. Kinds
-/// 20 and 21 share a type, as 30 and 31 do, and do not have the same commands.
+/// What a command is sent to: no selected type, an I2C type, or a kind with protection bits or of a
+/// large chip. Kinds 20 and 21 share a type, as 30 and 31 do, and do not have the same commands; nor
+/// do those of type 02h.
 #[derive(Clone, Copy)]
 enum On {
     Nothing,
@@ -74,7 +78,16 @@ enum On {
 }
 use On::{Kind, Nothing, Type};
 
-const ON: [On; 7] = [Nothing, Type(0x01), Type(0x02), Kind(20), Kind(21), Kind(30), Kind(31)];
+/// The chips of a run: in a session no large one goes in.
+fn chips(large: bool) -> Vec<&'static Chip> {
+    CHIPS.iter().filter(|chip| large || !LARGE.contains(&chip.kind)).collect()
+}
+
+/// What commands are sent to where these chips go in.
+fn all_on(chips: &[&Chip]) -> Vec<On> {
+    let alone = chips.iter().filter(|chip| chip.has_bits() || LARGE.contains(&chip.kind));
+    [Nothing, Type(0x01), Type(0x02)].into_iter().chain(alone.map(|chip| Kind(chip.kind))).collect()
+}
 
 impl fmt::Display for On {
     fn fmt(&self, text: &mut fmt::Formatter) -> fmt::Result {
@@ -90,7 +103,8 @@ impl fmt::Display for On {
 fn has(on: On, ins: u8) -> bool {
     match on {
         Nothing => ins == 0xa4,
-        Type(_) => [0xa4, 0x01, 0xb0, 0xd0].contains(&ins),
+        Type(_) | Kind(10) => [0xa4, 0x01, 0xb0, 0xd0].contains(&ins),
+        Kind(11) => [0xa4, 0x01, 0xb0, 0xb1, 0xd0, 0xd1].contains(&ins),
         Kind(20) => [0xa4, 0xb0, 0xb1, 0xb2, 0xd0, 0xd1, 0x20].contains(&ins),
         Kind(30) => [0xa4, 0xb0, 0xb1, 0xb2, 0xd0, 0xd1, 0x20, 0xd2].contains(&ins),
         Kind(_) => [0xa4, 0xb0, 0xb2, 0xd0, 0xd1].contains(&ins),
@@ -101,6 +115,16 @@ fn has(on: On, ins: u8) -> bool {
 /// card.
 const LACKED: [(u8, u8, u8, usize); 6] =
     [(21, 0xb1, 3, 5), (21, 0x20, 2, 7), (21, 0xd2, 3, 8), (31, 0xb1, 4, 5), (31, 0x20, 3, 8), (31, 0xd2, 3, 8)];
+
+/// The address that a read or a write names.
+fn address(kind: u8, apdu: &[u8]) -> usize {
+    let named = usize::from(apdu[2]) * 256 + usize::from(apdu[3]);
+    if kind == 11 && [0xb1, 0xd1].contains(&apdu[1]) {
+        TOP_BIT + named
+    } else {
+        named
+    }
+}
 
 impl Count {
     pub fn add(&mut self, what: String) {
@@ -207,6 +231,9 @@ impl Count {
             }
             _ => self.add(format!("{}: {:02X}: {:04X}", on, ins, word)),
         }
+        if LARGE.contains(&before.slot.kind) {
+            return self.large(before, apdu, told, word);
+        }
         if ins == 0xd1 && word == 0x9000 {
             self.protecting(before, after, apdu);
         }
@@ -226,6 +253,7 @@ impl Count {
             (Kind(21), ..) => self.last_bytes(before, apdu, told, word),
             (Type(_), 0xd0, 0x9000) => self.page_write(before, apdu, word),
             (Type(_), 0x01, 0x9000) => self.add(format!("{}: page code {:02X}h", on, apdu[5])),
+            (Type(_), 0xb1 | 0xd1, 0x6d00) => self.lacked(before, apdu),
             _ => {}
         }
     }
@@ -250,9 +278,8 @@ impl Count {
         }
     }
 
-    /// A trial case, which refusals were made to hold, and what is wrong with it.
-    pub fn case(&mut self, case: &Case, faults: &[bool; 5], why: &str) {
-        let line = case.line();
+    /// A message of a trial case, which refusals were made to hold, and what is wrong with it.
+    pub fn case(&mut self, case: &Case, line: &str, faults: &[bool; 5], why: &str) {
         let number = line.as_bytes()[0] - b'0';
         if number == 0 {
             self.add(format!("buffer of {} bytes", case.buffer));
@@ -274,8 +301,9 @@ impl Count {
         match number {
             1 if alone => self.add(format!("1: buffer of {} bytes", case.buffer)),
             2 if alone => self.add(format!("2: message of {} bytes", case.message.len())),
-            3 | 4 if alone => {
-                self.add(format!("{}: {}", number, why));
+            3 if alone => self.add(format!("3: {}", insertions::fault(case.record[0], why))),
+            4 if alone => {
+                self.add(format!("4: {}", why));
                 if SET_FAULTS.iter().any(|fault| fault.name == why) {
                     self.add(format!("4: an unsound set, {:02X}h", case.message[0]));
                 }
@@ -297,8 +325,8 @@ fn bytes(hex: &str) -> Vec<u8> {
     (0..hex.len() / 2).map(|k| u8::from_str_radix(&hex[2 * k..2 * k + 2], 16).unwrap_or(0)).collect()
 }
 
-/// What both kinds of run have to reach with answered messages.
-fn answers() -> Vec<String> {
+/// What a run has to reach with answered messages.
+fn answers(chips: &[&Chip]) -> Vec<String> {
     let mut goals = Vec::new();
     let mut goal = |text: String| goals.push(text);
     for status in [0x00, 0x01, 0x02, 0x40, 0x41, 0x42] {
@@ -333,14 +361,14 @@ fn answers() -> Vec<String> {
         goal(format!("bError 07h: 62h, {}", state));
         goal(format!("62h, {}: success", state));
     }
-    for chip in &CHIPS {
+    for chip in chips {
         goal(format!("62h, kind {}: {}", chip.kind, if chip.has_bits() { "3B 04 and memory" } else { "3B 00" }));
     }
     goal("261 data bytes reach the commands".to_string());
     for n in 0..5 {
         goal(format!("n = {}: 6700", n));
     }
-    for on in ON {
+    for on in all_on(chips) {
         goal(format!("{}: n below 5: 6700", on));
         goal(format!("{}: first byte not FFh: 6E00", on));
         goal(format!("{}: INS none: 6D00", on));
@@ -350,14 +378,16 @@ fn answers() -> Vec<String> {
                 goal(format!("{}: {:02X}: {}", on, ins, if matches!(on, Nothing) { "6985" } else { "6D00" }));
             } else {
                 goal(format!("{}: {:02X}: 6700", on, ins));
-                goal(format!("{}: {:02X}: 6B00", on, ins));
+                if !large::always_in_place(on, ins) {
+                    goal(format!("{}: {:02X}: 6B00", on, ins));
+                }
                 if ins != 0x20 {
                     goal(format!("{}: {:02X}: 9000", on, ins));
                 }
             }
         }
     }
-    for on in [Type(0x01), Type(0x02)] {
+    for on in all_on(chips).into_iter().filter(|&on| has(on, 0x01)) {
         goal(format!("{}: 01: 6A80", on));
         for code in 0x03..=0x07 {
             goal(format!("{}: page code {:02X}h", on, code));
@@ -396,35 +426,24 @@ fn answers() -> Vec<String> {
     ] {
         goal(what.to_string());
     }
-    goals.extend(writes::answers());
+    goals.extend(large::lacks(chips));
+    goals.extend(writes::answers(chips));
     goals.extend(parameters::answers());
-    goals.extend(counts::answers());
+    goals.extend(counts::answers(chips));
     goals
 }
-
-const CARD_FAULTS: [&str; 9] = [
-    "kind unknown",
-    "image short",
-    "image long",
-    "4442 counter above 07h",
-    "4428 bit for 3FDh is 0",
-    "4432 byte 260 not 00h",
-    "4432 byte 261 not 00h",
-    "4432 byte 262 not 00h",
-    "4432 byte 263 not 00h",
-];
 
 /// What a run of sessions has to reach. Refusal 1 cannot occur, since the program lends 271 bytes,
 /// and 4 cannot, since no message and no insertion makes the slot record unsound.
 pub fn session_goals() -> Vec<String> {
-    let mut goals = answers();
-    for chip in &CHIPS {
+    let chips = chips(false);
+    let mut goals = answers(&chips);
+    for chip in &chips {
         goals.push(format!("in 0: kind {}", chip.kind));
     }
     goals.push("in 0: kind 21, bit for 3FDh is 0".to_string());
-    for why in CARD_FAULTS {
-        goals.push(format!("in 3: {}", why));
-    }
+    goals.extend(insertions::in_sessions());
+    goals.extend(large::in_sessions());
     for why in [
         "in 3: empty body",
         "in 5: empty body",
@@ -450,7 +469,10 @@ pub fn session_goals() -> Vec<String> {
 
 /// What a run of trial cases has to reach. Refusal 5 is of insertions alone.
 pub fn trial_goals() -> Vec<String> {
-    let mut goals = answers();
+    let mut goals = answers(&chips(true));
+    goals.extend(large::answers());
+    goals.extend(large::in_cases());
+    goals.extend(insertions::in_cases());
     for buffer in [0, 270] {
         goals.push(format!("1: buffer of {} bytes", buffer));
     }
@@ -459,9 +481,6 @@ pub fn trial_goals() -> Vec<String> {
     }
     for length in 0..10 {
         goals.push(format!("2: message of {} bytes", length));
-    }
-    for why in CARD_FAULTS {
-        goals.push(format!("3: {}", why));
     }
     for why in RECORD_FAULTS {
         if why != "a rest byte not 00h" {

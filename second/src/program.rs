@@ -3,7 +3,7 @@
 use std::env;
 use std::io::{self, Read, Write};
 use std::process::{self, Command, Stdio};
-use std::sync::mpsc;
+use std::sync::{mpsc, Arc};
 use std::thread;
 use std::time::Duration;
 
@@ -62,7 +62,8 @@ impl Program {
 
     /// What the program prints for an input. A last line `ended with ..` stands for a program that
     /// did not end well, so that it compares unequal.
-    pub fn lines(&self, input: Vec<u8>) -> Result<Vec<String>, String> {
+    pub fn lines(&self, input: impl Into<Arc<Vec<u8>>>) -> Result<Vec<String>, String> {
+        let input = input.into();
         let mut child = self.command().spawn().map_err(|error| format!("cannot run {}: {}", self.shown(), error))?;
         let (stdin, stdout) = (child.stdin.take(), child.stdout.take());
         // The program may stop before it has read all of its input.

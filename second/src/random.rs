@@ -8,13 +8,15 @@ mod messages;
 mod parameters;
 mod sessions;
 
-pub use cases::{cases, Part, CASE_ENDINGS, RECORD_FAULTS};
+pub use cards::WRONG_LENGTHS;
+pub use cases::{cases, Part, CASE_ENDINGS, LARGE_FAULTS, RECORD_FAULTS};
 pub use counts::{borders, most_protected, COUNT_FAULTS};
 pub use parameters::{DI, FI, SET_FAULTS};
-pub use sessions::{sessions, ENDINGS};
+pub use sessions::{sessions, ENDINGS, LARGE_INSERTS};
 
+use crate::case::LONGEST_IMAGE;
 use crate::reader::{Chip, CHIPS};
-use crate::step::Reader;
+use crate::step::{Reader, LONGEST_BODY};
 
 /// A splitmix64 generator.
 pub struct Rng(u64);
@@ -45,7 +47,11 @@ impl Rng {
     }
 
     fn bytes(&mut self, count: usize) -> Vec<u8> {
-        (0..count).map(|_| self.byte()).collect()
+        let mut bytes = vec![0; count];
+        for eight in bytes.chunks_mut(8) {
+            eight.copy_from_slice(&self.next().to_le_bytes()[..eight.len()]);
+        }
+        bytes
     }
 
     fn chance(&mut self, percent: usize) -> bool {
@@ -86,17 +92,30 @@ struct Maker {
     /// The last bSeq and the last message.
     seq: u8,
     last: Vec<u8>,
+    /// The kinds that go in, each as often as its weight says, and the longest image that can be told.
+    kinds: &'static [(usize, u8)],
+    longest: usize,
 }
 
 /// How often a kind is taken: those with protection bits most, the largest images least.
 #[rustfmt::skip]
-const KINDS: [(usize, u8); 13] = [
+const IN_SESSIONS: [(usize, u8); 13] = [
     (40, 30), (32, 20), (26, 31), (26, 21), (6, 1), (6, 2), (6, 3), (6, 4), (6, 5), (6, 6), (6, 7), (4, 8), (3, 9),
+];
+#[rustfmt::skip]
+const IN_CASES: [(usize, u8); 15] = [
+    (40, 30), (32, 20), (26, 31), (26, 21), (6, 1), (6, 2), (6, 3), (6, 4), (6, 5), (6, 6), (6, 7), (4, 8), (3, 9),
+    (3, 10), (3, 11),
 ];
 
 impl Maker {
-    fn new(rng: Rng) -> Maker {
-        Maker { rng, reader: Reader::empty(), seq: 0, last: Vec::new() }
+    fn of_sessions(rng: Rng) -> Maker {
+        let (reader, kinds, longest) = (Reader::empty(), &IN_SESSIONS, LONGEST_BODY - 1);
+        Maker { rng, reader, seq: 0, last: Vec::new(), kinds, longest }
+    }
+
+    fn of_cases(rng: Rng) -> Maker {
+        Maker { kinds: &IN_CASES, longest: LONGEST_IMAGE, ..Maker::of_sessions(rng) }
     }
 
     /// The card in the slot.
@@ -105,7 +124,7 @@ impl Maker {
     }
 
     fn any_chip(&mut self) -> &'static Chip {
-        chip_of(self.rng.weighed(&KINDS))
+        chip_of(self.rng.weighed(self.kinds))
     }
 }
 

@@ -57,7 +57,7 @@ const fn i2c(kind: u8, name: &'static str, bytes: usize, page: usize, select: u8
 }
 
 #[rustfmt::skip]
-pub static CHIPS: [Chip; 13] = [
+pub static CHIPS: [Chip; 15] = [
     i2c(1, "I2C 1 kbit", 128, 8, 0x01),
     i2c(2, "I2C 2 kbit", 256, 8, 0x01),
     i2c(3, "I2C 4 kbit", 512, 16, 0x01),
@@ -67,6 +67,8 @@ pub static CHIPS: [Chip; 13] = [
     i2c(7, "I2C 64 kbit", 8192, 32, 0x02),
     i2c(8, "I2C 128 kbit", 16384, 64, 0x02),
     i2c(9, "I2C 256 kbit", 32768, 64, 0x02),
+    i2c(10, "I2C 512 kbit", 65536, 128, 0x02),
+    i2c(11, "I2C 1024 kbit", 131072, 256, 0x02),
     Chip {
         kind: 20, name: "SLE4428", image: 1152, memory: 1024, page: 0, select: 0x05,
         full: 0xff, counter: 0x3fd, code: 0x3fe..0x400, protection: 1024, protectable: 1024, zeros: 0..0,
@@ -84,6 +86,9 @@ pub static CHIPS: [Chip; 13] = [
         full: 0, counter: NOWHERE, code: NOWHERE..NOWHERE, protection: 256, protectable: 32, zeros: 260..264,
     },
 ];
+
+/// The kinds of the two large chips, whose images no record of the session program holds.
+pub const LARGE: [u8; 2] = [10, 11];
 
 impl Chip {
     /// The chip of a kind.
@@ -320,12 +325,17 @@ enum Place {
     Fixed(usize),
     /// An address where address + P3 is at most this, and at most the memory size.
     Upto(usize),
+    /// The low 16 bits of an address whose top bit is 1: address + P3 is at most the memory size.
+    Above,
     /// An address where address + 8·P3 is at most this.
     BitsUpto(usize),
 }
-use Place::{BitsUpto, Fixed, Upto};
+use Place::{Above, BitsUpto, Fixed, Upto};
 
-/// What a command brings: P1P2, P3 and the bytes after P3.
+/// The top bit of a 17-bit address.
+pub const TOP_BIT: usize = 0x10000;
+
+/// What a command brings: its address or other place, P3 and the bytes after P3.
 struct Given<'a> {
     place: usize,
     p3: usize,
@@ -343,22 +353,24 @@ struct Command {
     run: fn(&mut Card, &Given, &mut Data) -> u16,
 }
 
-const I2C: &[u8] = &[1, 2, 3, 4, 5, 6, 7, 8, 9];
+const I2C: &[u8] = &[1, 2, 3, 4, 5, 6, 7, 8, 9, 10, 11];
 const BITS: &[u8] = &[20, 21, 30, 31];
-const ALL: &[u8] = &[1, 2, 3, 4, 5, 6, 7, 8, 9, 20, 21, 30, 31];
+const ALL: &[u8] = &[1, 2, 3, 4, 5, 6, 7, 8, 9, 10, 11, 20, 21, 30, 31];
 const MEMORY: usize = usize::MAX;
 
 #[rustfmt::skip]
-static COMMANDS: [Command; 15] = [
+static COMMANDS: [Command; 17] = [
     Command { ins: 0xa4, kinds: ALL,       p3: 1..=1,   brings: true,  place: Fixed(0),       run: select },
     Command { ins: 0x01, kinds: I2C,       p3: 1..=1,   brings: true,  place: Fixed(0),       run: set_page },
     Command { ins: 0xb0, kinds: ALL,       p3: 1..=255, brings: false, place: Upto(MEMORY),   run: read },
+    Command { ins: 0xb1, kinds: &[11],     p3: 1..=255, brings: false, place: Above,          run: read },
     Command { ins: 0xb1, kinds: &[20],     p3: 3..=3,   brings: false, place: Fixed(0),       run: read_counter },
     Command { ins: 0xb1, kinds: &[30],     p3: 4..=4,   brings: false, place: Fixed(0),       run: read_counter },
     Command { ins: 0xb2, kinds: &[20, 21], p3: 1..=32,  brings: false, place: BitsUpto(1024), run: read_protection },
     Command { ins: 0xb2, kinds: &[30, 31], p3: 4..=4,   brings: false, place: Fixed(0),       run: read_protection },
     Command { ins: 0xd0, kinds: I2C,       p3: 1..=255, brings: true,  place: Upto(MEMORY),   run: write_pages },
     Command { ins: 0xd0, kinds: BITS,      p3: 1..=255, brings: true,  place: Upto(MEMORY),   run: write },
+    Command { ins: 0xd1, kinds: &[11],     p3: 1..=255, brings: true,  place: Above,          run: write_pages },
     Command { ins: 0xd1, kinds: &[20],     p3: 1..=255, brings: true,  place: Upto(0x3fd),    run: protect },
     Command { ins: 0xd1, kinds: &[21],     p3: 1..=255, brings: true,  place: Upto(MEMORY),   run: protect },
     Command { ins: 0xd1, kinds: &[30, 31], p3: 1..=255, brings: true,  place: Upto(32),       run: protect },
@@ -430,15 +442,17 @@ impl Card<'_> {
             None => return WRONG_INS,
         };
 
-        let place = usize::from(apdu[2]) * 256 + usize::from(apdu[3]);
+        let named = usize::from(apdu[2]) * 256 + usize::from(apdu[3]);
         let p3 = usize::from(apdu[4]);
         let follow = if command.brings { p3 } else { 0 };
         if apdu.len() != 5 + follow || !command.p3.contains(&p3) {
             return WRONG_LENGTH;
         }
+        let place = if matches!(command.place, Above) { TOP_BIT + named } else { named };
         let placed = match command.place {
             Fixed(only) => place == only,
             Upto(end) => place + p3 <= end.min(self.chip.memory),
+            Above => place + p3 <= self.chip.memory,
             BitsUpto(end) => place + 8 * p3 <= end,
         };
         // D0 must not cover a 4428's 3FDh; the other chips have no counter in their memory.
@@ -503,8 +517,8 @@ fn read_protection(card: &mut Card, given: &Given, data: &mut Data) -> u16 {
     DONE
 }
 
-/// D0 on I2C. A cut of the data ends before the next multiple of the reader page; inside a cut
-/// the chip holds the address above its page and runs round in the low part.
+/// D0 on I2C, and D1 on kind 11. A cut of the data ends before the next multiple of the reader page;
+/// inside a cut the chip holds the address above its page and runs round in the low part.
 fn write_pages(card: &mut Card, given: &Given, _: &mut Data) -> u16 {
     let (reader_page, chip_page) = (usize::from(card.slot.page), card.chip.page);
     let mut cut_start = given.place;

@@ -1,10 +1,10 @@
 //! Makes a session or a list of cases that two programs answer differently as short as it gets,
 //! and tells it.
 
-use crate::case::{raw, slot_of, Case, PROTOCOL, REST, SET, TRIES};
+use crate::case::{raw, slot_of, Call, Case, PROTOCOL, RECORD, REST, SET, TRIES};
 use crate::random;
 use crate::reader::{Chip, Slot};
-use crate::record::{told_message, Record};
+use crate::record::{told_card, told_message, Record};
 use crate::step::hex;
 use std::time::{Duration, Instant};
 
@@ -188,37 +188,28 @@ impl Part for random::Part {
             random::Part::Case(case) => case,
             random::Part::Ending(bytes) => return format!("{} bytes as they stand", bytes.len()),
         };
-        let (record, slot) = (&case.record, slot_of(&case.record));
-        let kind = match Chip::of(record[0]) {
-            Some(chip) => chip.name,
-            None if record[0] == 0 => "no card",
-            None => "no kind",
+        let call = match case.call {
+            Call::Message => {
+                format!("message: {}\n         {}", told_message(&case.message, case.record[0]), hex(&case.message))
+            }
+            Call::Insertion => {
+                let kind = case.message.first().copied().unwrap_or(0);
+                format!("insertion of {}", told_card(kind, &case.image))
+            }
+            Call::Removal => "removal".to_string(),
         };
         let (tries, protected) = case.counts();
-        let rest = if record[REST..].iter().all(|&byte| byte == 0) { "00" } else { "not all 00" };
+        let image = match case.call {
+            Call::Message => format!("image: {} bytes, tries {}, protected {}", case.image.len(), tries, protected),
+            _ => format!("image: {} bytes", case.image.len()),
+        };
         format!(
-            "record: kind {} ({}), active {}, type {:02x}, page {}, open {}, protocol {}, set {}, \
-             tries {}, protected {}, rest {}\n\
-             buffer: {} bytes of {:02x}\nmessage: {}\n         {}\n\
-             image: {} bytes, tries {}, protected {}",
-            record[0],
-            kind,
-            record[1],
-            record[2],
-            record[3],
-            record[4],
-            record[PROTOCOL],
-            hex(&record[SET..TRIES]),
-            slot.tries,
-            slot.protected,
-            rest,
+            "{}\nbuffer: {} bytes of {:02x}\n{}\n{}",
+            told_record(&case.record),
             case.buffer,
             case.fill,
-            told_message(&case.message),
-            hex(&case.message),
-            case.image.len(),
-            tries,
-            protected
+            call,
+            image
         )
     }
 
@@ -235,26 +226,35 @@ impl Part for random::Part {
                 break;
             }
         }
-        let with = case.clone();
-        case.message =
-            smaller_message(&with.message, &mut |less| still(&Case { message: less.to_vec(), ..with.clone() }));
-        // The default set first: the other bytes are most often sound with it alone.
-        let mut with = case.clone();
-        with.record[PROTOCOL..TRIES].copy_from_slice(&raw(&Slot::empty())[PROTOCOL..TRIES]);
-        if still(&with) {
-            case = with;
+        if case.call == Call::Message {
+            let with = case.clone();
+            case.message =
+                smaller_message(&with.message, &mut |less| still(&Case { message: less.to_vec(), ..with.clone() }));
+            // The default set first: the other bytes are most often sound with it alone.
+            let mut with = case.clone();
+            with.record[PROTOCOL..TRIES].copy_from_slice(&raw(&Slot::empty())[PROTOCOL..TRIES]);
+            if still(&with) {
+                case = with;
+            }
         }
+        // The kind in the slot stays where the image is to be one of it.
+        let first = usize::from(case.call == Call::Message);
         let with = case.clone();
         let mut record = with.record.to_vec();
-        clear(&mut record, 1, 32, &mut |less| {
+        clear(&mut record, first, 32, &mut |less| {
             let mut record = with.record;
             record.copy_from_slice(less);
             still(&Case { record, ..with.clone() })
         });
         case.record.copy_from_slice(&record);
+        // An image that is not looked at.
+        let without = Case { image: Vec::new(), ..case.clone() };
+        if still(&without) {
+            return random::Part::Case(without);
+        }
         // Counts that are the image's stay so.
         let slot = slot_of(&case.record);
-        let right = (slot.tries, slot.protected) == case.counts();
+        let right = case.call == Call::Message && (slot.tries, slot.protected) == case.counts();
         let with_image = |image: &[u8]| {
             let mut with = Case { image: image.to_vec(), ..case.clone() };
             if right {
@@ -266,6 +266,32 @@ impl Part for random::Part {
         clear(&mut image, 0, end, &mut |less| still(&with_image(less)));
         random::Part::Case(with_image(&image))
     }
+}
+
+/// A raw record in words.
+fn told_record(record: &[u8; RECORD]) -> String {
+    let slot = slot_of(record);
+    let kind = match Chip::of(record[0]) {
+        Some(chip) => chip.name,
+        None if record[0] == 0 => "no card",
+        None => "no kind",
+    };
+    let rest = if record[REST..].iter().all(|&byte| byte == 0) { "00" } else { "not all 00" };
+    format!(
+        "record: kind {} ({}), active {}, type {:02x}, page {}, open {}, protocol {}, set {}, \
+         tries {}, protected {}, rest {}",
+        record[0],
+        kind,
+        record[1],
+        record[2],
+        record[3],
+        record[4],
+        record[PROTOCOL],
+        hex(&record[SET..TRIES]),
+        slot.tries,
+        slot.protected,
+        rest
+    )
 }
 
 /// A line with long runs of one byte in hex written as XX*N.
@@ -333,6 +359,48 @@ mod tests {
         let bytes: Vec<Vec<u8>> = left.iter().map(Record::bytes).collect();
         let message = vec![0x4f, 0x4d, 13, 0, 0x6f, 3, 0, 0, 0, 0, 0, 0, 0, 0, 0, 0, 0];
         assert_eq!(bytes, [message, vec![0x43, 0x4f, 0, 0]]);
+    }
+
+    fn case(call: Call, message: &[u8], image: usize) -> random::Part {
+        let record = [0x55; RECORD];
+        random::Part::Case(Case {
+            call,
+            record,
+            buffer: 300,
+            fill: 7,
+            message: message.to_vec(),
+            image: vec![9; image],
+        })
+    }
+
+    /// The cases that are left, in words.
+    fn left(parts: &[random::Part], test: fn(&Case) -> bool) -> String {
+        let holds = |part: &random::Part| matches!(part, random::Part::Case(case) if test(case));
+        let left = shrink(parts.to_vec(), &mut |parts: &[random::Part]| parts.iter().any(holds));
+        left.iter().map(|part| part.told()).collect::<Vec<_>>().join("\n")
+    }
+
+    /// An insertion keeps its kind byte and the bytes that the test needs, a removal next to nothing.
+    #[test]
+    fn insertions_and_removals() {
+        let message = [&[0x6f, 50, 0, 0, 0, 0, 9, 0, 0, 0][..], &[0xaa; 50]].concat();
+        let parts =
+            [case(Call::Message, &message, 9), case(Call::Insertion, &[11], 131072), case(Call::Removal, &[], 600)];
+        let zeros = "active 0, type 00, page 0, open 0, protocol 0, set 00000000000000, tries 0, protected 0, rest 00";
+        assert_eq!(
+            left(&parts, |case| case.call == Call::Insertion
+                && case.image.get(70000) == Some(&9)
+                && case.record[0] != 0),
+            format!(
+                "record: kind 85 (no kind), {}\nbuffer: 0 bytes of 00\n\
+                 insertion of kind 11 (I2C 1024 kbit), 131072 image bytes of 131072\nimage: 131072 bytes",
+                zeros
+            )
+        );
+        assert_eq!(
+            left(&parts, |case| case.call == Call::Removal),
+            format!("record: kind 0 (no card), {}\nbuffer: 0 bytes of 00\nremoval\nimage: 0 bytes", zeros)
+        );
     }
 
     #[test]

@@ -1,12 +1,12 @@
 //! The records of the session program, and one record carried out: the line it gives.
 
-use crate::reader::{self, Slot, ANSWER_BUFFER};
+use crate::reader::{self, Slot, ANSWER_BUFFER, LARGE};
 
 pub const INSERT: [u8; 2] = [0x43, 0x49];
 pub const REMOVE: [u8; 2] = [0x43, 0x4f];
 pub const MESSAGE: [u8; 2] = [0x4f, 0x4d];
 
-/// The longest body: a kind byte and the image of the largest card.
+/// The longest body: a kind byte and the image of the largest card that the program knows.
 pub const LONGEST_BODY: usize = 32_769;
 
 /// The slot record and the image of the card in it.
@@ -35,10 +35,10 @@ impl Reader {
     }
 
     fn insert(&mut self, body: &[u8]) -> String {
-        // An empty body counts as one of unknown kind; 0 is no kind.
+        // An empty body counts as one of unknown kind, and a large chip as one too; 0 is no kind.
         let (kind, image) = match body.split_first() {
-            Some((&kind, image)) => (kind, image),
-            None => (0, body),
+            Some((&kind, image)) if !LARGE.contains(&kind) => (kind, image),
+            _ => (0, body),
         };
         match reader::insert(&mut self.slot, kind, image) {
             Ok(()) => {

@@ -9,7 +9,7 @@ use second::shrink::{dump, shortened, shrink, Part};
 use std::fs;
 use std::process::ExitCode;
 use std::sync::atomic::{AtomicBool, AtomicUsize, Ordering};
-use std::sync::Mutex;
+use std::sync::{Arc, Mutex};
 use std::thread;
 use std::time::{Duration, Instant};
 
@@ -213,12 +213,19 @@ fn unequal(one: &[String], two: &[String]) -> usize {
     one.iter().zip(two).take_while(|(one, two)| one == two).count()
 }
 
+/// All parts as they stand on standard input.
+fn bytes<P: Part>(parts: &[P]) -> Vec<u8> {
+    let mut bytes = Vec::new();
+    parts.iter().for_each(|part| bytes.extend_from_slice(&part.bytes()));
+    bytes
+}
+
 fn both_lines<P: Part>(first: &Program, second: &Program, parts: &[P]) -> Result<(Vec<String>, Vec<String>), String> {
-    let input: Vec<u8> = parts.iter().map(|part| part.bytes()).collect::<Vec<_>>().concat();
-    let copy = input.clone();
+    // The images of large cards are many bytes, which both programs are handed from one place.
+    let input = Arc::new(bytes(parts));
     let (one, two) = thread::scope(|scope| {
-        let one = scope.spawn(move || first.lines(copy));
-        let two = second.lines(input);
+        let one = scope.spawn(|| first.lines(input.clone()));
+        let two = second.lines(input.clone());
         (one.join(), two)
     });
     let one = one.map_err(|_| "a run broke off".to_string())?;
@@ -261,8 +268,7 @@ fn tell<P: Part>(first: &Program, second: &Program, difference: Difference<P>) -
         }
         say!("");
     }
-    let bytes = parts.iter().map(|part| part.bytes()).collect::<Vec<_>>().concat();
-    match fs::write(DIFFERENCE, bytes) {
+    match fs::write(DIFFERENCE, bytes(&parts)) {
         Ok(()) => say!("its bytes are in {}", DIFFERENCE),
         Err(error) => say!("its bytes could not be written to {}: {}", DIFFERENCE, error),
     }

@@ -32,6 +32,7 @@ fn main() -> ExitCode {
     let mut tests = Tests { program, passed: 0, failed: 0 };
     tests.ends();
     tests.insertions();
+    tests.large_chips();
     tests.removals_and_messages();
     tests.bad_records();
     tests.lengths();
@@ -60,6 +61,11 @@ fn status(seq: u8) -> Vec<u8> {
 
 fn power_on(seq: u8) -> Vec<u8> {
     message(&[0x62, 0, 0, 0, 0, 0, seq, 0, 0, 0])
+}
+
+/// A 6Fh with these data.
+fn transfer(data: &[u8]) -> Vec<u8> {
+    message(&[&[0x6f, data.len() as u8, 0, 0, 0, 0, 0, 0, 0, 0][..], data].concat())
 }
 
 /// A mark and a length, and no body.
@@ -132,7 +138,7 @@ impl Tests {
         self.whole("an empty insert body without a card", &[none.clone(), status(0)], &["in 3", EMPTY]);
         let records = [insert(30, &sle4442(0)), none, status(0)];
         self.whole("an empty insert body with a card in", &records, &["in 0", "in 5", INACTIVE]);
-        self.whole("an unknown kind", &[insert(10, &[0; 128]), status(0)], &["in 3", EMPTY]);
+        self.whole("an unknown kind", &[insert(12, &[0; 128]), status(0)], &["in 3", EMPTY]);
         self.whole("kind 0 is no kind", &[insert(0, &[]), insert(0, &[0; 128])], &["in 3", "in 3"]);
         self.whole("an image one byte short", &[insert(1, &[0; 127]), status(0)], &["in 3", EMPTY]);
         self.whole("an image one byte long", &[insert(1, &[0; 129]), status(0)], &["in 3", EMPTY]);
@@ -152,8 +158,38 @@ impl Tests {
         let records = [insert(30, &sle4442(0xa5)), insert(30, &sle4442(0xb6)), power_on(0)];
         let wanted = ["in 0", "in 5", "msg 0 800600000000000000003b04a5a5a5a5"];
         self.whole("the card that is in stays in", &records, &wanted);
-        let records = [insert(1, &[0; 128]), insert(10, &[]), insert(1, &[0; 127])];
+        let records = [insert(1, &[0; 128]), insert(12, &[]), insert(1, &[0; 127])];
         self.whole("with a card in, 5 comes before 3", &records, &["in 0", "in 5", "in 5"]);
+    }
+
+    /// Kinds 10 and 11 are taken as unknown, and what is held stays.
+    fn large_chips(&mut self) {
+        for kind in [10, 11] {
+            for length in [0, 1, 128, 264, 32768] {
+                let name = format!("insert of kind {}, {} image bytes", kind, length);
+                let large = insert(kind, &vec![0xb6; length]);
+                self.whole(&name, &[large.clone(), status(0)], &["in 3", EMPTY]);
+
+                // The card stays active, with its type selected, and its memory is as it was.
+                let name = format!("{}, with a card in", name);
+                let read = transfer(&[0xff, 0xb0, 0, 0, 4]);
+                let records =
+                    [insert(30, &sle4442(0xa5)), power_on(0), transfer(&[0xff, 0xa4, 0, 0, 1, 6]), large, read];
+                let wanted = [
+                    "in 0",
+                    "msg 0 800600000000000000003b04a5a5a5a5",
+                    "msg 0 800200000000000000009000",
+                    "in 5",
+                    "msg 0 80060000000000000000a5a5a5a59000",
+                ];
+                self.whole(&name, &records, &wanted);
+            }
+            let records = [insert(kind, &[0; 32768]), insert(9, &[0; 32768]), insert(kind, &[]), remove(), status(0)];
+            let name = format!("a card goes in behind kind {}, and out", kind);
+            self.whole(&name, &records, &["in 3", "in 0", "in 5", "out 0", EMPTY]);
+            let name = format!("an insert body of 32,770 bytes, kind {}", kind);
+            self.whole(&name, &[insert(kind, &[0; 32769]), status(0)], &["bad"]);
+        }
     }
 
     fn removals_and_messages(&mut self) {

@@ -1,9 +1,10 @@
 //! The trial program: cases from standard input, a line each on standard output, as soon as the
-//! case is done. A case is a raw slot record (32 bytes), the answer buffer's length (2 bytes, low
-//! first), the byte it is filled with, the message's length (2, low first), the image's length (4,
-//! low first), message, image.
+//! case is done. A case is the call (0 message, 1 insertion, 2 removal), a raw slot record (32
+//! bytes), the answer buffer's length (2 bytes, low first), the byte it is filled with, the
+//! message's length (2, low first; 1 of an insertion, 0 of a removal), the image's length (4, low
+//! first), message, image.
 
-use second::case::{Case, HEADER, LONGEST_BUFFER, LONGEST_IMAGE, LONGEST_MESSAGE, RECORD};
+use second::case::{Call, Case, HEADER, LONGEST_BUFFER, LONGEST_IMAGE, RECORD};
 use std::io::{self, Read, Write};
 
 fn main() -> io::Result<()> {
@@ -22,7 +23,7 @@ fn main() -> io::Result<()> {
     Ok(())
 }
 
-/// A case that is cut or over a limit.
+/// A case that is cut, over a limit, of another call, or with a message that its call does not have.
 struct Bad;
 
 /// The next case, or nothing at a clean end.
@@ -35,15 +36,16 @@ fn next(input: &mut impl Read) -> io::Result<Option<Result<Case, Bad>>> {
         return Ok(Some(Err(Bad)));
     }
     let mut record = [0; RECORD];
-    record.copy_from_slice(&header[..RECORD]);
-    let buffer = usize::from(u16::from_le_bytes([header[32], header[33]]));
-    let fill = header[34];
-    let message = usize::from(u16::from_le_bytes([header[35], header[36]]));
-    let image = u32::from_le_bytes([header[37], header[38], header[39], header[40]]) as usize;
-    if buffer > LONGEST_BUFFER || message > LONGEST_MESSAGE || image > LONGEST_IMAGE {
-        return Ok(Some(Err(Bad)));
-    }
-    let case = Case { record, buffer, fill, message: take(input, message)?, image: take(input, image)? };
+    record.copy_from_slice(&header[1..33]);
+    let buffer = usize::from(u16::from_le_bytes([header[33], header[34]]));
+    let fill = header[35];
+    let message = usize::from(u16::from_le_bytes([header[36], header[37]]));
+    let image = u32::from_le_bytes([header[38], header[39], header[40], header[41]]) as usize;
+    let call = match Call::of(header[0]) {
+        Some(call) if call.takes(message) && buffer <= LONGEST_BUFFER && image <= LONGEST_IMAGE => call,
+        _ => return Ok(Some(Err(Bad))),
+    };
+    let case = Case { call, record, buffer, fill, message: take(input, message)?, image: take(input, image)? };
     if case.message.len() < message || case.image.len() < image {
         return Ok(Some(Err(Bad)));
     }

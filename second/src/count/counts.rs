@@ -91,10 +91,10 @@ impl Count {
     }
 }
 
-/// What both kinds of run have to reach with answered messages.
-pub(super) fn answers() -> Vec<String> {
+/// What a run has to reach with answered messages.
+pub(super) fn answers(chips: &[&Chip]) -> Vec<String> {
     let mut goals = vec!["shown, no card: 0 tries".to_string(), "shown, no card: 0 protected".to_string()];
-    for chip in &CHIPS {
+    for chip in chips {
         let on = card(chip.kind);
         goals.extend((0..=chip.full.count_ones()).map(|tries| format!("shown, {}: {} tries", on, tries)));
         goals.extend(borders(chip).iter().map(|count| format!("shown, {}: {} protected", on, count)));
@@ -114,7 +114,11 @@ pub(super) fn answers() -> Vec<String> {
 /// that are carried out, and a D1 that adds none. On I2C, the commands that are carried out.
 fn kept(chip: &Chip) -> Vec<String> {
     if !chip.has_bits() {
-        return ["A4: 9000", "01: 9000", "B0: 9000", "D0: 9000"].map(str::to_string).to_vec();
+        let mut what = vec!["A4: 9000", "01: 9000", "B0: 9000", "D0: 9000"];
+        if chip.kind == 11 {
+            what.extend(["B1: 9000", "D1: 9000"]);
+        }
+        return what.into_iter().map(str::to_string).collect();
     }
     let mut what: Vec<String> = SUPPORTED.iter().map(|kind| format!("{} failed", kind)).collect();
     what.extend(SUPPORTED.iter().filter(|&&kind| kind != "6Fh").map(|kind| kind.to_string()));

@@ -1,27 +1,30 @@
-//! What is counted of D0: on a card with protection bits, which bytes of the range are protected and
-//! which of those are as sent; on I2C, page writes that run round.
+//! What is counted of D0, and of D1 on kind 11: on a card with protection bits, which bytes of the
+//! range are protected and which of those are as sent; on I2C, page writes, and those that run round.
 
-use super::{Before, Count};
+use super::{address, Before, Count};
 use crate::reader::{Chip, CHIPS};
 
 /// A byte of the range before the write.
-struct Byte {
-    address: usize,
+pub(super) struct Byte {
+    pub(super) address: usize,
     protected: bool,
     /// It is the one sent already.
-    equal: bool,
+    pub(super) equal: bool,
 }
 
 /// The bytes of a range that lies in the memory.
-fn range(before: &Before, apdu: &[u8]) -> Vec<Byte> {
-    let place = usize::from(apdu[2]) * 256 + usize::from(apdu[3]);
+pub(super) fn range(before: &Before, apdu: &[u8]) -> Vec<Byte> {
+    let place = address(before.slot.kind, apdu);
     let byte = |(address, sent): (usize, &u8)| Byte {
         address,
         protected: before.protected(address),
-        equal: before.image[address] == *sent,
+        equal: before.image.get(address) == Some(sent),
     };
     (place..).zip(&apdu[5..]).map(byte).collect()
 }
+
+/// The reader pages.
+pub(super) const PAGES: [u8; 5] = [8, 16, 32, 64, 128];
 
 /// Which bytes of a range are protected.
 fn which(range: &[Byte]) -> &'static str {
@@ -84,11 +87,11 @@ impl Count {
         }
     }
 
-    /// A D0 on I2C. It runs round where a page of the chip begins inside a cut: the byte there keeps its
-    /// value.
+    /// A write on I2C. It runs round where a page of the chip begins inside a cut: the byte there keeps
+    /// its value.
     pub(super) fn page_write(&mut self, before: &Before, apdu: &[u8], word: u16) {
         let (kind, reader_page) = (before.slot.kind, usize::from(before.slot.page));
-        let mut add = |what: String| self.add(format!("kind {}: D0 {}: {:04X}", kind, what, word));
+        let mut add = |what: String| self.add(format!("kind {}: {:02X} {}: {:04X}", kind, apdu[1], what, word));
         add(format!("with reader page {}", reader_page));
         let chip_page = Chip::of(kind).map_or(reader_page, |chip| chip.page);
         let keeps = |byte: &Byte| byte.address % chip_page == 0 && byte.address % reader_page != 0;
@@ -98,16 +101,19 @@ impl Count {
     }
 }
 
-/// What both kinds of run have to reach.
-pub(super) fn answers() -> Vec<String> {
+/// What a run has to reach.
+pub(super) fn answers(chips: &[&Chip]) -> Vec<String> {
     let mut goals = Vec::new();
-    for chip in &CHIPS {
+    for chip in chips {
         let mut goal = |text: String| goals.push(format!("kind {}: D0 {}", chip.kind, text));
         if !chip.has_bits() {
-            for page in [8, 16, 32, 64, 128] {
+            for page in PAGES {
                 goal(format!("with reader page {}: 9000", page));
             }
-            goal("runs round, a byte other than sent: 9000".to_string());
+            // No reader page is larger than 128.
+            if chip.page < 128 {
+                goal("runs round, a byte other than sent: 9000".to_string());
+            }
             continue;
         }
         goal("with none protected: 9000".to_string());

@@ -1,8 +1,7 @@
 //! Cards that go in, and cards that do not.
 
 use super::{chip_of, Maker};
-use crate::case::LONGEST_IMAGE;
-use crate::reader::Chip;
+use crate::reader::{Chip, LARGE};
 
 /// The last four bytes of a 4432, and what is wrong where one is not 00h.
 #[rustfmt::skip]
@@ -11,20 +10,25 @@ const LAST_FOUR: [(usize, &str); 4] = [
     (262, "4432 byte 262 not 00h"), (263, "4432 byte 263 not 00h"),
 ];
 
+/// How an image's length is not the kind's.
+pub const WRONG_LENGTHS: [&str; 5] =
+    ["image short", "image long", "no image", "image of the other large kind", "image of another kind"];
+
 impl Maker {
     /// An image that fits: odd counters and protection bits, but for the rest any bytes.
     pub(super) fn image(&mut self, chip: &Chip) -> Vec<u8> {
         let rng = &mut self.rng;
         let mut image = match rng.below(4) {
             0 => vec![rng.pick(&[0x00, 0xff, 0x55]); chip.image],
-            1 => (0..chip.image).map(|k| k as u8).collect(),
+            // Two addresses that differ in one of their bytes do not hold the same.
+            1 => (0..chip.image).map(|k| (k ^ k >> 8 ^ k >> 16) as u8).collect(),
             _ => rng.bytes(chip.image),
         };
         if !chip.has_bits() {
             return image;
         }
         let bits = chip.protection..chip.protection + chip.protectable / 8;
-        match rng.below(17) {
+        match rng.below(20) {
             0 => image[bits].fill(0x00),
             1 => {}
             2 | 3 => {
@@ -85,41 +89,21 @@ impl Maker {
 
     /// A kind and an image that do not go in, and why.
     pub(super) fn bad_card(&mut self) -> (u8, Vec<u8>, &'static str) {
-        let (chip, which) = match self.rng.below(6) {
-            3 => (chip_of(30), 3),
-            4 => (chip_of(20), 4),
-            5 => (chip_of(31), 5),
-            which => (self.any_chip(), which),
+        let kind = match self.rng.below(8) {
+            0 => return self.unknown_kind(),
+            1..=4 => return self.wrong_length(),
+            5 => 30,
+            6 => 20,
+            _ => 31,
         };
-        let (mut kind, mut image) = (chip.kind, self.image(chip));
-        let why = match which {
-            0 => {
-                kind = loop {
-                    let kind =
-                        if self.rng.chance(50) { self.rng.byte() } else { self.rng.pick(&[0, 10, 19, 22, 29, 32]) };
-                    if Chip::of(kind).is_none() {
-                        break kind;
-                    }
-                };
-                "kind unknown"
-            }
-            1 => {
-                image.pop();
-                "image short"
-            }
-            2 if image.len() < LONGEST_IMAGE => {
-                image.push(self.rng.byte());
-                "image long"
-            }
-            2 => {
-                image.pop();
-                "image short"
-            }
-            3 => {
+        let chip = chip_of(kind);
+        let mut image = self.image(chip);
+        let why = match kind {
+            30 => {
                 image[chip.counter] = self.rng.pick(&[0x08, 0x0f, 0x10, 0x80, 0xff]);
                 "4442 counter above 07h"
             }
-            4 => {
+            20 => {
                 chip.protect(&mut image, chip.counter);
                 "4428 bit for 3FDh is 0"
             }
@@ -129,6 +113,52 @@ impl Maker {
                 why
             }
         };
+        (kind, image, why)
+    }
+
+    /// A kind that is none, with an image of any.
+    fn unknown_kind(&mut self) -> (u8, Vec<u8>, &'static str) {
+        let chip = self.any_chip();
+        let kind = loop {
+            let kind = if self.rng.chance(50) { self.rng.byte() } else { self.rng.pick(&[0, 12, 19, 22, 29, 32]) };
+            if Chip::of(kind).is_none() {
+                break kind;
+            }
+        };
+        (kind, self.image(chip), "kind unknown")
+    }
+
+    /// Any kind that goes in, each as often as another, with an image of another length.
+    fn wrong_length(&mut self) -> (u8, Vec<u8>, &'static str) {
+        let (_, kind) = self.rng.pick(self.kinds);
+        let chip = chip_of(kind);
+        let mut image = self.image(chip);
+        let mut why = self.rng.pick(&WRONG_LENGTHS);
+        // No longer one can be told, or there is no other large kind.
+        if why == "image long" && image.len() == self.longest {
+            why = "image short";
+        }
+        if why == "image of the other large kind" && !LARGE.contains(&kind) {
+            why = "image of another kind";
+        }
+        match why {
+            "image short" => {
+                image.pop();
+            }
+            "image long" => image.push(self.rng.byte()),
+            "no image" => image.clear(),
+            "image of the other large kind" => image = self.image(chip_of(21 - kind)),
+            _ => {
+                let both_large = |other: &Chip| LARGE.contains(&kind) && LARGE.contains(&other.kind);
+                let other = loop {
+                    let other = chip_of(self.rng.pick(self.kinds).1);
+                    if other.image != chip.image && !both_large(other) {
+                        break other;
+                    }
+                };
+                image = self.image(other);
+            }
+        }
         (kind, image, why)
     }
 }

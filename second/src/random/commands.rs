@@ -1,9 +1,9 @@
 //! The commands inside 6Fh, in their right form and spoiled.
 
 use super::Maker;
-use crate::reader::Chip;
+use crate::reader::{Chip, LARGE, TOP_BIT};
 
-const INS: [u8; 9] = [0xa4, 0x01, 0xb0, 0xb1, 0xb2, 0xd0, 0xd1, 0x20, 0xd2];
+pub(super) const INS: [u8; 9] = [0xa4, 0x01, 0xb0, 0xb1, 0xb2, 0xd0, 0xd1, 0x20, 0xd2];
 const LENGTHS: [usize; 24] =
     [1, 2, 3, 4, 5, 7, 8, 9, 15, 16, 17, 31, 32, 33, 63, 64, 65, 100, 127, 128, 129, 200, 254, 255];
 const PLACES: [usize; 30] = [
@@ -13,7 +13,15 @@ const PLACES: [usize; 30] = [
 
 /// How often each command is taken, by what the card is.
 #[rustfmt::skip]
-const ON_I2C: [(usize, u8); 4] = [(6, 0xa4), (18, 0x01), (32, 0xb0), (44, 0xd0)];
+const ON_I2C: [(usize, u8); 6] = [(6, 0xa4), (18, 0x01), (30, 0xb0), (6, 0xb1), (42, 0xd0), (6, 0xd1)];
+#[rustfmt::skip]
+const ON_KIND_10: [(usize, u8); 9] = [
+    (8, 0xa4), (16, 0x01), (20, 0xb0), (7, 0xb1), (6, 0xb2), (28, 0xd0), (7, 0xd1), (5, 0x20), (5, 0xd2),
+];
+#[rustfmt::skip]
+const ON_KIND_11: [(usize, u8); 9] = [
+    (6, 0xa4), (10, 0x01), (16, 0xb0), (14, 0xb1), (4, 0xb2), (20, 0xd0), (24, 0xd1), (4, 0x20), (4, 0xd2),
+];
 #[rustfmt::skip]
 const ON_CLOSED: [(usize, u8); 8] =
     [(5, 0xa4), (23, 0xb0), (8, 0xb1), (8, 0xb2), (6, 0xd0), (4, 0xd1), (41, 0x20), (5, 0xd2)];
@@ -35,35 +43,49 @@ impl Maker {
     /// The data of a 6Fh: mostly a command of the present type, in its right form.
     pub(super) fn apdu(&mut self) -> Vec<u8> {
         let own = self.chip().map_or(0x06, |chip| chip.select);
-        let without_code = self.chip().map_or(false, |chip| chip.has_bits() && !chip.has_code());
         let slot = &self.reader.slot;
         let ins = if slot.active && slot.selected == 0 && self.rng.chance(60) {
             0xa4
         } else if self.rng.chance(6) {
             self.rng.pick(&INS)
         } else {
-            match (own, self.reader.slot.open) {
-                (0x01 | 0x02, _) => self.rng.weighed(&ON_I2C),
-                _ if without_code => self.rng.weighed(&ON_WITHOUT_CODE),
-                (_, false) => self.rng.weighed(&ON_CLOSED),
-                (_, true) => self.rng.weighed(&ON_OPEN),
+            match (own, self.reader.slot.kind, self.reader.slot.open) {
+                (_, 10, _) => self.rng.weighed(&ON_KIND_10),
+                (_, 11, _) => self.rng.weighed(&ON_KIND_11),
+                (0x01 | 0x02, ..) => self.rng.weighed(&ON_I2C),
+                (_, 21 | 31, _) => self.rng.weighed(&ON_WITHOUT_CODE),
+                (_, _, false) => self.rng.weighed(&ON_CLOSED),
+                (_, _, true) => self.rng.weighed(&ON_OPEN),
             }
         };
-        // A command that the type does not have takes the form of one that has it.
+        self.apdu_of(ins)
+    }
+
+    /// The data of a 6Fh with that INS.
+    pub(super) fn apdu_of(&mut self, ins: u8) -> Vec<u8> {
+        let own = self.chip().map_or(0x06, |chip| chip.select);
+        // A command that the type does not have takes the form of one that has it: B1 and D1 on I2C
+        // most often that of kind 11.
         let form = match (ins, own) {
             (0x01, 0x05 | 0x06) => 0x01,
+            (0xb1 | 0xd1, 0x01 | 0x02) if self.reader.slot.kind == 11 || self.rng.chance(70) => 0x02,
             (0xb1 | 0xb2 | 0xd1 | 0x20, 0x01 | 0x02) => self.rng.pick(&[0x05, 0x06]),
             (0xd2, 0x01 | 0x02 | 0x05) => 0x06,
             _ => own,
         };
         let mut apdu = self.command(ins, form);
         // Commands that have but one right form are spoiled more often, and most those that a card
-        // without a code lacks, whatever their length.
-        let percent = match ins {
-            0xa4 => 40,
-            0xb1 | 0x20 | 0xd2 if without_code => 60,
-            0x01 | 0xb1 | 0xb2 | 0xd2 => 20,
-            _ => 14,
+        // lacks, whatever their length.
+        let percent = match (ins, self.reader.slot.kind) {
+            (0xa4, _) => 40,
+            (0xb1 | 0x20 | 0xd2, 21 | 31) | (0xb2 | 0x20 | 0xd2, 10 | 11) => 60,
+            (0xb1 | 0xd1, 1..=10) if self.rng.chance(50) => {
+                self.other_length(&mut apdu);
+                return apdu;
+            }
+            (_, 10 | 11) => 25,
+            (0x01 | 0xb1 | 0xb2 | 0xd2, _) => 20,
+            _ => 16,
         };
         if self.rng.chance(percent) {
             self.spoil(&mut apdu);
@@ -74,7 +96,6 @@ impl Maker {
     /// A command in its right form, as the type `form` has it.
     pub(super) fn command(&mut self, ins: u8, form: u8) -> Vec<u8> {
         let own = self.chip().map_or(form, |chip| chip.select);
-        let memory = self.chip().map_or(256, |chip| chip.memory);
         let brought = |place: usize, data: Vec<u8>| {
             let mut apdu = vec![0xff, ins, (place >> 8) as u8, place as u8, data.len() as u8];
             apdu.extend_from_slice(&data);
@@ -83,7 +104,7 @@ impl Maker {
         let plain = |place: usize, p3: usize| vec![0xff, ins, (place >> 8) as u8, place as u8, p3 as u8];
         match (ins, form) {
             (0xa4, _) => {
-                let value = if self.rng.chance(90) {
+                let value = if self.rng.chance(80) {
                     own
                 } else {
                     self.rng.pick(&[0x00, 0x01, 0x02, 0x03, 0x04, 0x05, 0x06, 0x07, 0xff])
@@ -92,7 +113,7 @@ impl Maker {
             }
             (0x01, _) => {
                 let value = if self.rng.chance(92) {
-                    // With the largest page a write runs round on every chip.
+                    // With the largest page a write runs round on every chip that is not large.
                     self.rng.pick(&[0x03, 0x04, 0x05, 0x06, 0x07, 0x07])
                 } else {
                     self.rng.pick(&[0x00, 0x01, 0x02, 0x08, 0x09, 0x83, 0xff])
@@ -105,8 +126,13 @@ impl Maker {
                     Some(&[0xd0, high, low, count]) if self.rng.chance(40) => {
                         (usize::from(high) * 256 + usize::from(low), usize::from(count))
                     }
-                    _ => self.span(memory),
+                    _ if own == 0x05 && self.rng.chance(15) => self.rng.pick(&NEAR_CODE),
+                    _ => self.memory_span(),
                 };
+                plain(place, count)
+            }
+            (0xb1, 0x02) => {
+                let (place, count) = self.memory_span();
                 plain(place, count)
             }
             (0xb1, 0x05) => plain(0, 3),
@@ -114,9 +140,9 @@ impl Maker {
             (0xb2, 0x05) => {
                 let count = self.rng.pick(&[1, 1, 2, 3, 4, 8, 16, 31, 32, 33]);
                 let last = 1024 - 8 * count;
-                let place = match self.rng.below(5) {
-                    0 => last,
-                    1 => last + self.rng.pick(&[1, 2, 8, 0xfc00]),
+                let place = match self.rng.below(7) {
+                    0..=2 => last,
+                    3 => last + self.rng.pick(&[1, 2, 8, 0xfc00]),
                     _ => self.rng.below(last + 1),
                 };
                 plain(place, count)
@@ -130,9 +156,14 @@ impl Maker {
                 let (place, count) = match about {
                     Some(span) => span,
                     None if own == 0x05 && self.rng.chance(50) => self.rng.pick(&NEAR_CODE),
-                    None => self.span(memory),
+                    None => self.memory_span(),
                 };
                 let data = self.write_data(place, count);
+                brought(place, data)
+            }
+            (0xd1, 0x02) => {
+                let (place, count) = self.memory_span();
+                let data = self.write_data(TOP_BIT + place, count);
                 brought(place, data)
             }
             (0xd1, _) => {
@@ -149,7 +180,8 @@ impl Maker {
                 let (place, count) = match about {
                     Some((place, count)) if place < end => (place, count.min(end - place)),
                     _ if end == 0x400 && self.rng.chance(50) => self.rng.pick(&NEAR_CODE),
-                    _ if end > 255 && self.rng.chance(12) => (self.rng.below(end - 254), 255),
+                    _ if end == 32 && self.rng.chance(8) => (0, 32),
+                    _ if end > 255 && self.rng.chance(25) => (self.rng.below(end - 254), 255),
                     _ => self.span(end),
                 };
                 let data = self.protect_data(place, count);
@@ -165,6 +197,30 @@ impl Maker {
                 brought(1, code)
             }
         }
+    }
+
+    /// P1P2 and a count of 1 to 255 for a read or a write of the memory.
+    fn memory_span(&mut self) -> (usize, usize) {
+        match self.chip() {
+            Some(chip) if LARGE.contains(&chip.kind) => self.large_span(chip),
+            chip => self.span(chip.map_or(256, |chip| chip.memory)),
+        }
+    }
+
+    /// P1P2 and a count on a large card: at 0000h, at FFFFh, up to FFFFh or over it, over a page of the
+    /// chip, or anywhere.
+    fn large_span(&mut self, chip: &Chip) -> (usize, usize) {
+        let rng = &mut self.rng;
+        let count = if rng.chance(60) { rng.pick(&LENGTHS) } else { 1 + rng.below(255) };
+        let place = match rng.below(12) {
+            0 => 0,
+            1 | 2 => return (0xffff, rng.pick(&[1, 2])),
+            3 => TOP_BIT - count,
+            4..=6 => 0xffff - rng.below(count),
+            7..=9 => chip.page * (1 + rng.below(TOP_BIT / chip.page - 1)) - rng.below(count.min(chip.page)),
+            _ => rng.below(TOP_BIT),
+        };
+        (place, count)
     }
 
     /// A place and a count of 1 to 255: inside, at the edges, up to the end, and past it.
@@ -263,10 +319,24 @@ impl Maker {
         code
     }
 
+    /// A byte more or less than P3 asks for, or a P3 of 0.
+    fn other_length(&mut self, apdu: &mut Vec<u8>) {
+        match self.rng.below(3) {
+            0 if apdu.len() > 5 => {
+                apdu.pop();
+            }
+            1 => {
+                apdu[4] = 0;
+                apdu.truncate(5);
+            }
+            _ => apdu.push(self.rng.byte()),
+        }
+    }
+
     /// A fault in a command, or something that is no command.
-    fn spoil(&mut self, apdu: &mut Vec<u8>) {
+    pub(super) fn spoil(&mut self, apdu: &mut Vec<u8>) {
         let rng = &mut self.rng;
-        match rng.below(17) {
+        match rng.below(21) {
             0 => apdu.truncate(rng.below(5)),
             1 => apdu[0] = rng.pick(&[0x00, 0x80, 0xfe, 0x7f]),
             2 => {
@@ -284,11 +354,11 @@ impl Maker {
             // P3 and the bytes that came do not agree, or are too many or too few
             3 => apdu[4] = apdu[4].wrapping_add(1),
             4 => apdu[4] = apdu[4].wrapping_sub(1),
-            5 => apdu.push(rng.byte()),
+            5 | 17 => apdu.push(rng.byte()),
             6 => {
                 apdu.pop();
             }
-            7 => {
+            7 | 18 => {
                 apdu[4] = 0;
                 apdu.truncate(5);
             }
@@ -302,7 +372,7 @@ impl Maker {
             9 => apdu[4] = rng.byte(),
             // another place
             10 => apdu[2] = rng.pick(&[0x01, 0x04, 0x80, 0xff]),
-            11..=13 => apdu[3] = apdu[3].wrapping_add(rng.pick(&[1, 0x10, 0x80, 0xff])),
+            11..=13 | 19 | 20 => apdu[3] = apdu[3].wrapping_add(rng.pick(&[1, 0x10, 0x80, 0xff])),
             14 => {
                 apdu[2] = 0xff;
                 apdu[3] = 0xff;

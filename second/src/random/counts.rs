@@ -131,7 +131,7 @@ mod tests {
     /// What is counted here is what the rules count.
     #[test]
     fn both_count_alike() {
-        let mut maker = Maker::new(Rng::new(1, 1));
+        let mut maker = Maker::of_cases(Rng::new(1, 1));
         for _ in 0..2000 {
             let chip = maker.any_chip();
             let image = maker.image(chip);
@@ -142,7 +142,7 @@ mod tests {
 
     #[test]
     fn so_many_bytes_are_protected() {
-        let mut maker = Maker::new(Rng::new(1, 1));
+        let mut maker = Maker::of_cases(Rng::new(1, 1));
         for chip in CHIPS.iter().filter(|chip| chip.has_bits()) {
             for count in borders(chip).into_iter().cycle().take(100) {
                 let mut image = maker.image(chip);

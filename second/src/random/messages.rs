@@ -30,10 +30,7 @@ impl Maker {
         };
         let message = match self.rng.below(100) {
             0..=3 if !self.last.is_empty() => self.last.clone(),
-            which if (4..12 + early).contains(&which) => {
-                let message = self.fair_message();
-                self.damage(message)
-            }
+            which if (4..12 + early).contains(&which) => self.damaged(),
             99 => {
                 let count = self.rng.below(10);
                 let mut message = self.fair_message();
@@ -52,7 +49,7 @@ impl Maker {
             (0, ..) => [(3, 0x62), (2, 0x63), (3, 0x65), (3, 0x6f), (9, 0x61), (2, 0x6c), (2, 0x6d)],
             (_, false, _) => [(14, 0x62), (1, 0x63), (2, 0x65), (2, 0x6f), (10, 0x61), (3, 0x6c), (1, 0x6d)],
             (_, true, 0) => [(2, 0x62), (1, 0x63), (1, 0x65), (20, 0x6f), (2, 0x61), (1, 0x6c), (1, 0x6d)],
-            _ => [(3, 0x62), (1, 0x63), (3, 0x65), (93, 0x6f), (14, 0x61), (4, 0x6c), (2, 0x6d)],
+            _ => [(3, 0x62), (2, 0x63), (3, 0x65), (93, 0x6f), (14, 0x61), (4, 0x6c), (2, 0x6d)],
         };
         match self.rng.weighed(&weights) {
             0x61 => self.set_parameters(),
@@ -62,6 +59,12 @@ impl Maker {
             }
             kind => self.ccid(kind, &[]),
         }
+    }
+
+    /// A message of which something is wrong.
+    pub(super) fn damaged(&mut self) -> Vec<u8> {
+        let message = self.fair_message();
+        self.damage(message)
     }
 
     /// Something of the header, or the length, goes wrong.

@@ -122,7 +122,7 @@ impl Maker {
     fn spoil_set(&mut self, message: &mut Vec<u8>) {
         let rng = &mut self.rng;
         let at = |offset: usize| message.get(offset).copied().unwrap_or(0);
-        let (offset, value) = match rng.below(25) {
+        let (offset, value) = match rng.below(26) {
             0 | 1 => (10, rng.pick(&RESERVED_FI) << 4 | at(10) & 0x0f),
             2..=4 => (10, at(10) & 0xf0 | rng.pick(&RESERVED_DI)),
             5..=7 => (11, rng.pick(&[0x00, 0x00, 0x04, 0x10, 0x10, 0x14, 0x20, 0x40, 0x80, 0xfc]) | at(11) & 0x03),
@@ -131,9 +131,9 @@ impl Maker {
             14..=16 => (16, rng.pick(&[1, 1, 2, 0x10, 0x80, 0xff])),
             17 | 18 => (7, rng.pick(&[0, 1, 2, 2, 3, 0x80, 0x80, 0x81, 0x82, 0xff])),
             19 | 20 => (5, rng.pick(&[1, 2, 0x80, 0xff])),
-            21 => (1, rng.pick(&[0, 5, 5, 6, 7, 7, 8])),
+            21 | 22 => (1, rng.pick(&[0, 5, 5, 6, 7, 7, 8])),
             _ => {
-                let length = rng.pick(&[0, 4, 5, 5, 6, 7, 7, 8]);
+                let length = rng.pick(&[0, 4, 5, 5, 6, 6, 7, 7, 8]);
                 message.resize(10 + length, rng.byte());
                 if rng.chance(60) {
                     message[1] = length as u8;

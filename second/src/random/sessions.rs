@@ -1,10 +1,13 @@
 //! Sessions: cards that go in and out, messages, and what ends a session.
 
 use super::{chip_of, Maker, Rng, Stream};
-use crate::case::LONGEST_IMAGE;
 use crate::count::{self, Count};
+use crate::reader::LARGE;
 use crate::record::{whole, Record};
 use crate::step::{INSERT, LONGEST_BODY, MESSAGE, REMOVE};
+
+/// The image with which a large chip comes, which is taken as unknown.
+pub const LARGE_INSERTS: [&str; 4] = ["no image", "a short image", "an image of another kind", "32,768 image bytes"];
 
 /// How a stream may end: the causes of `bad`, and a clean end.
 pub const ENDINGS: [&str; 15] = [
@@ -28,11 +31,12 @@ pub const ENDINGS: [&str; 15] = [
 /// The records of stream `index` of the seed: sessions of together at least so many messages.
 pub fn sessions(seed: u64, index: u64, messages: usize, count: &mut Count) -> Stream<Record> {
     let mut making = Making {
-        maker: Maker::new(Rng::new(seed, index)),
+        maker: Maker::of_sessions(Rng::new(seed, index)),
         stream: Stream { parts: Vec::new(), lines: Vec::new(), starts: Vec::new() },
         messages: 0,
         befell: None,
         changed: None,
+        large: None,
         count,
     };
     while making.messages < messages {
@@ -53,6 +57,8 @@ struct Making<'a> {
     /// What the record just before did to tries left or the number of protected bytes, and on which
     /// kind.
     changed: Option<(u8, &'static str)>,
+    /// The line of the record just before, where it is an insert of a large chip, and its kind.
+    large: Option<(String, u8)>,
     count: &'a mut Count,
 }
 
@@ -93,11 +99,30 @@ impl Making<'_> {
             }
             _ => self.count.add(format!("{}: {}", line, why)),
         }
+        self.after_large(&record, &line);
         self.after_change(&before, &record, &line);
         self.parameters(&before, &record, &line);
         self.after_write(before.slot.kind, &record, &line);
         self.stream.parts.push(record);
         self.stream.lines.push(line);
+    }
+
+    /// Counts a message that is answered right after a large chip was turned down: with a card in, one
+    /// that reads the memory.
+    fn after_large(&mut self, record: &Record, line: &str) {
+        if let (Some((before, kind)), Record::Message(message)) = (&self.large, record) {
+            let read = message.get(11) == Some(&0xb0) && line.ends_with("9000");
+            if line.starts_with("msg 0") && (before == "in 3" || read) {
+                let what = if before == "in 3" { "a message" } else { "a B0" };
+                self.count.add(format!("{} right after {} of kind {}", what, before, kind));
+            }
+        }
+        self.large = match record {
+            Record::Insert(body) => {
+                body.first().filter(|kind| LARGE.contains(kind)).map(|&kind| (line.to_string(), kind))
+            }
+            _ => None,
+        };
     }
 
     /// Counts a message that is answered right after a count has changed.
@@ -173,11 +198,36 @@ impl Making<'_> {
     }
 
     fn bad_insertion(&mut self) {
-        if self.maker.rng.chance(20) {
-            self.put(Record::Insert(Vec::new()), "empty body");
+        match self.maker.rng.below(10) {
+            0 => self.put(Record::Insert(Vec::new()), "empty body"),
+            1..=4 => self.large_insertion(),
+            _ => {
+                let (kind, image, why) = self.maker.bad_card();
+                self.insert(kind, &image, why);
+            }
+        }
+    }
+
+    /// A large chip. What the slot holds is looked over behind it.
+    fn large_insertion(&mut self) {
+        let (kind, how) = (self.maker.rng.pick(&LARGE), self.maker.rng.pick(&LARGE_INSERTS));
+        let image = match how {
+            "no image" => Vec::new(),
+            "a short image" => {
+                let length = 1 + self.maker.rng.below(127);
+                self.maker.rng.bytes(length)
+            }
+            "an image of another kind" => {
+                let chip = chip_of(self.maker.rng.pick(&[1, 2, 5, 20, 21, 30, 31]));
+                self.maker.image(chip)
+            }
+            _ => self.maker.rng.bytes(LONGEST_BODY - 1),
+        };
+        self.insert(kind, &image, &format!("kind {}, {}", kind, how));
+        if self.maker.reader.slot.selected != 0 && self.maker.rng.chance(60) {
+            self.look_over();
         } else {
-            let (kind, image, why) = self.maker.bad_card();
-            self.insert(kind, &image, why);
+            self.message();
         }
     }
 
@@ -196,7 +246,7 @@ impl Making<'_> {
         if self.maker.rng.chance(5) {
             self.put(Record::Remove, "");
         }
-        if self.maker.rng.chance(20) {
+        if self.maker.rng.chance(30) {
             self.bad_insertion();
         }
         self.good_card();
@@ -303,7 +353,7 @@ impl Making<'_> {
             }
             "an insert body of 32,770 bytes" => {
                 let mut body = vec![0; LONGEST_BODY + 1];
-                body[0] = 9;
+                body[0] = rng.pick(&[9, 10, 11]);
                 [whole(INSERT, &body), after].concat()
             }
             "a message body of 32,770 bytes" => [whole(MESSAGE, &vec![0x65; LONGEST_BODY + 1]), after].concat(),
@@ -314,7 +364,7 @@ impl Making<'_> {
             "a remove body of 1 byte" => [whole(REMOVE, &[rng.byte()]), after].concat(),
             "a longer remove body" => [whole(REMOVE, &ten), after].concat(),
             "a clean end after 32,769 bytes" => {
-                let image = rng.bytes(LONGEST_IMAGE);
+                let image = rng.bytes(LONGEST_BODY - 1);
                 self.insert(9, &image, "");
                 self.put(Record::Message(vec![0x62; LONGEST_BODY]), "");
                 self.count.add(how.to_string());

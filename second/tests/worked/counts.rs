@@ -1,7 +1,7 @@
 //! Tries left and number of protected bytes, which the slot record keeps.
 
 use crate::{bytes, raw, sle4428, sle4442, try_it, Host};
-use second::case::{self, Case};
+use second::case::{self, Call, Case};
 use second::reader::{self, Slot};
 
 const STATUS: &str = "65 00000000 00 00 000000";
@@ -312,7 +312,7 @@ fn trial_lines() {
     let case = |record: [u8; 32], apdu: &str, image: Vec<u8>| {
         let apdu = bytes(apdu);
         let message = [&[0x6f, apdu.len() as u8, 0, 0, 0, 0, 7, 0, 0, 0][..], &apdu].concat();
-        Case { record, buffer: 271, fill: 0xee, message, image }
+        Case { call: Call::Message, record, buffer: 271, fill: 0xee, message, image }
     };
     let line = |record: &str, word: &str, changed: &str| {
         format!("0 12 {}{} 80020000000007000000{}{}{}", record, "00".repeat(16), word, "ee".repeat(259), changed)

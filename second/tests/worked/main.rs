@@ -1,11 +1,13 @@
 //! The second program's own tests: answers worked out by hand from the paper.
 
+mod calls;
 mod counts;
+mod large;
 mod parameters;
 mod protected;
 mod without_code;
 
-use second::case::Case;
+use second::case::{Call, Case};
 use second::parameters::Parameters;
 use second::reader::{self, Chip, Slot};
 use second::step::{Reader, INSERT, MESSAGE, REMOVE};
@@ -662,6 +664,7 @@ fn any_bytes_at_all() {
 #[test]
 fn trial_lines() {
     let mut case = Case {
+        call: Call::Message,
         record: raw(&[30, 1, 6, 8, 0], 3, 0),
         buffer: 272,
         fill: 0xee,

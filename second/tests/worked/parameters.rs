@@ -1,7 +1,7 @@
 //! Slot parameters: the messages 61h, 6Ch and 6Dh, and sets in slot records.
 
 use crate::{bytes, raw, sle4442, try_it, Host};
-use second::case::{self, Case};
+use second::case::{self, Call, Case};
 use second::parameters::Parameters;
 use second::reader::{self, Slot};
 
@@ -249,6 +249,7 @@ fn the_default_returns_over_any_set() {
 #[test]
 fn trial_lines() {
     let mut case = Case {
+        call: Call::Message,
         record: raw(&[30, 0, 0, 16, 0], 3, 0),
         buffer: 271,
         fill: 0xee,
@@ -287,7 +288,7 @@ fn unsound_sets_in_raw_records() {
         let mut record = raw(first, if first[0] == 30 { 3 } else { 0 }, 0);
         record[5..13].copy_from_slice(&bytes(set));
         let message = bytes("6D 00000000 00 00 000000");
-        let case = Case { record, buffer: 271, fill: 0, message, image: sle4442(7) };
+        let case = Case { call: Call::Message, record, buffer: 271, fill: 0, message, image: sle4442(7) };
         &case.line()[..4] == "4 0 "
     };
     let card = [30, 0, 0, 8, 0];

@@ -2,7 +2,7 @@
 //! range is stored, the others are passed over.
 
 use crate::{bytes, raw, sle4428, Host};
-use second::case::Case;
+use second::case::{Call, Case};
 
 const BITS: [u8; 4] = [20, 21, 30, 31];
 
@@ -364,6 +364,7 @@ fn trial_lines() {
         [(20, 5, 1, 8, "14010508"), (21, 5, 0, 0, "15010508"), (30, 6, 1, 3, "1e010608"), (31, 6, 0, 0, "1f010608")]
     {
         let case = |data: &str| Case {
+            call: Call::Message,
             record: raw(&[kind, 1, selected, 8, open], tries, 2),
             buffer: 272,
             fill: 0xee,
@@ -387,6 +388,7 @@ fn trial_lines() {
     // Closed, a code card stores nothing.
     for (kind, selected, tries, record) in [(20, 5, 8, "1401050800"), (30, 6, 3, "1e01060800")] {
         let case = Case {
+            call: Call::Message,
             record: raw(&[kind, 1, selected, 8, 0], tries, 1),
             buffer: 271,
             fill: 0xee,

@@ -1,7 +1,7 @@
 //! Cards without a code: kinds 21 and 31, which share images and types with 20 and 30.
 
 use crate::{bytes, raw, sle4428, sle4442, try_it, Host};
-use second::case::Case;
+use second::case::{Call, Case};
 use second::reader::Slot;
 
 /// An SLE4418 whose memory counts up, but for the last three bytes C1 C2 C3; nothing protected.
@@ -426,6 +426,7 @@ fn trial_lines() {
     let done = "800200000000010000009000".to_string() + &"ee".repeat(259);
     let word = |word: &str| format!("80020000000001000000{}{}", word, "ee".repeat(259));
     let sle4418 = |apdu: &str| Case {
+        call: Call::Message,
         record: raw(&[21, 1, 5, 8, 0], 0, 0),
         buffer: 271,
         fill: 0xee,
