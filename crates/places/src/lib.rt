@@ -64,13 +64,16 @@ fn only(value: usize, at: usize) -> Ranged
     Ranged::At(at)
 }
 
-// The address, where n bytes from it on lie in the memory and none of them is the counter.
+// The address, where n bytes from it on lie in the memory and none of them is the counter. A card without a code has none to ask for.
 fn writable(chip: Chip, at: usize, n: usize) -> Ranged
     requires { ⌜ (at < addresses + addresses) × (n < 256) ⌝ }
     ensures { λ r. ⌜ r ≡ rangeTest (facts chip) Write at n ⌝ }
 {
     if chip.facts().memory < at + n {
         return Ranged::Outside;
+    }
+    if !chip.facts().coded {
+        return Ranged::At(at);
     }
     if at + n <= chip.facts().counter {
         return Ranged::At(at);

@@ -1,7 +1,7 @@
 -- A D0 on a card with pages leaves what the page rule says (`Paged`), whatever the chip: where the reader page divides the chip page, which of the five
 -- is "at most", exactly the named range holds the data; otherwise each cut stays in its chip page.
 use Prim.Native.Nat.{ℕ, _+_, _%_, _≤_, _<_}
-use mathlib.Core.Path.{_≡_, sym, ap, _∙_, subst⁻¹}
+use mathlib.Core.Path.{_≡_, ap, _∙_, subst⁻¹}
 use mathlib.Core.Bool.{true, not}
 use mathlib.Core.List.{List, _++_}
 use native.Mathlib.Omega.{arith}

@@ -2,14 +2,13 @@
 -- image, so that a transfer to it without a fault is heard.
 use Prim.Native.Nat.{ℕ, _-_, _≤_, _<_}
 use mathlib.Core.Path.{_≡_, refl, sym, ap, _∙_}
-use mathlib.Core.Bool.{Bool, true, false, not, true≢false, false≢true}
+use mathlib.Core.Bool.{Bool, true, false, true≢false, false≢true}
 use mathlib.Core.Logic.{inr}
 use mathlib.Core.List.{List}
 use native.Mathlib.Omega.{arith}
 use lib.ListN.{length, length-replicate}
 use lib.Dec.{leb, ltb}
 use borrow.Author.Tests.{ltb-true, ltb-false}
-use Rattle.words.specs.Choice.{_⇒_⁏_, _isnt_}
 use Rattle.words.specs.Bounds.{leastRoom}
 use Rattle.words.proofs.Choices.{either, rest, both}
 use Rattle.words.proofs.Lists.{blank-end}

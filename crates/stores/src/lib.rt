@@ -5,7 +5,7 @@
 use bits::Place;
 use pages::store;
 ghost use mathlib.Core.Path.{_≡_};
-ghost use Prim.Native.Nat.{_+_, _/_, _≤_, _<_};
+ghost use Prim.Native.Nat.{_+_, _/_, _≤_};
 ghost use lib.ListN.{length};
 ghost use Rattle.words.specs.Bounds.{largest};
 ghost use Rattle.stores.specs.Stores.{storing, endsEqual};

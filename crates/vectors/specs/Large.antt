@@ -10,7 +10,6 @@ use Rattle.words.specs.Choice.{_⇒_⁏_, _and_}
 use Rattle.words.specs.Bytes.{same}
 use Rattle.chips.specs.declared.Chip.{Chip}
 use Rattle.chips.specs.declared.Chip.the-variants.{I2c1, I2c256, I2c512, I2c1024}
-use Rattle.chips.specs.declared.Facts.{Facts}
 use Rattle.chips.specs.Kinds.{facts}
 use Rattle.slot.specs.declared.Slot.{Slot}
 use Rattle.slot.specs.Slots.{paged, powered}

@@ -8,7 +8,6 @@ use lib.Dec.{leb, ltb}
 use Rattle.words.specs.Choice.{_⇒_⁏_, _and_, _or_, _is_, _isnt_}
 use Rattle.words.specs.Bytes.{byte, series}
 use Rattle.words.specs.Bounds.{addresses}
-use Rattle.chips.specs.declared.Chip.{Chip}
 use Rattle.chips.specs.declared.Facts.{Facts}
 use Rattle.chips.specs.Kinds.{facts}
 use Rattle.pages.specs.Pages.{pageWrite}

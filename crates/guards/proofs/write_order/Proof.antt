@@ -2,7 +2,7 @@
 use borrow.Author.Needs.{needs}
 use mathlib.Core.Path.{refl, sym, _∙_}
 use Prim.Native.Nat.{ℕ}
-use borrow.Author.Tests.{le-leb, lt-leb, not-true, not-false}
+use borrow.Author.Tests.{le-leb, lt-leb}
 use Rattle.chips.specs.Kinds.{facts}
 use Rattle.steps.specs.Steps.{Write}
 use Rattle.steps.proofs.StepLaws.{Past4, Past6, PastP3, Past8, past3, past4, past5, past6, pastP3, past7, past8, past9, stop4, stop6, stopP3, stop7, stop9}

@@ -1,7 +1,7 @@
 -- `range_test` meets its contract: each arm is its instruction's rule, and the ranges are none of them.
 use borrow.Author.Needs.{needs}
 use mathlib.Core.Path.{_≡_, refl, sym, ap, _∙_}
-use Prim.Native.Nat.{ℕ, _+_, _*_}
+use Prim.Native.Nat.{_+_, _*_}
 use lib.Dec.{leb}
 use borrow.Author.Tests.{ne-eqb}
 use Rattle.words.specs.Choice.{_⇒_⁏_}
