@@ -148,6 +148,6 @@ all-caught = refl
 pub all-refuted : EachRefuted wrongReaders
 all-refuted = each-refuted 0 wrongReaders all-caught
 
-pub row-count : length wrongReaders ≡ 1791
+pub row-count : length wrongReaders ≡ 1790
 unfolding rules wrongReaders
 row-count = refl

@@ -28,23 +28,26 @@ dropsTop = placedBy ins λ f d. rangeTest f (ins f d) (p1p2 d) (p3 d)
 abbrev pub raises : ℕ → Doer
 raises i = placedBy ins λ f d. byte d 1 is i and seventeen f ⇒ rangeTest f (ins f d) (addresses + p1p2 d) (p3 d) ⁏ placeIn f d
 
--- goes on at 00000h behind 0FFFFh: reads, and writes
+-- reads on at 00000h behind 0FFFFh
 abbrev pub readsRound : Doer
-readsRound = twisted 0xB0 λ f s image d e. tells (series (λ (k : ℕ). byte image (k % addresses)) (p1p2 d) (p3 d) ++ done) e
+readsRound = twisted 0xB0 λ f s image d e. seventeen f ⇒ tells (series (λ (k : ℕ). byte image (k % addresses)) (p1p2 d) (p3 d) ++ done) e ⁏ e
 
+-- writes on at 00000h behind 0FFFFh
 abbrev pub writesRound : Doer
 writesRound = twisted 0xD0 λ f s image d e.
     let front = addresses - p1p2 d in
-    leaves (sets (sets image (p1p2 d) (take front (body d))) 0 (drop front (body d))) e
+    seventeen f ⇒ leaves (sets (sets image (p1p2 d) (take front (body d))) 0 (drop front (body d))) e
+    ⁏ e
 
 -- ---- B1 and D1 on I2C cards
--- takes B1, or D1, for B0, or D0, on this kind too, with no top bit
+-- takes B1 for B0 on this kind too
 abbrev pub takesB1 : ℕ → Doer
 takesB1 k = placedBy (λ f d. b1 f d ⇒ Read ⁏ ins f d) (λ f d. b1 f d ⇒ rangeTest f Read (p1p2 d) (p3 d) ⁏ placeIn f d)
   where
     b1 : Facts → List ℕ → Bool
     b1 f d = f .kind is k and byte d 1 is 0xB1
 
+-- takes D1 for D0 on this kind too
 abbrev pub takesD1 : ℕ → Doer
 takesD1 k = placedBy (λ f d. d1 f d ⇒ Write ⁏ ins f d) (λ f d. d1 f d ⇒ rangeTest f Write (p1p2 d) (p3 d) ⁏ placeIn f d)
   where
@@ -59,12 +62,13 @@ knowsB1 k = orderedBy λ f s image d. f .kind is k and byte d 1 is 0xB1 ⇒ Orde
 abbrev pub dropsBoth : Doer
 dropsBoth = orderedBy λ f s image d. f .page isnt 0 and (byte d 1 is 0xB1 or byte d 1 is 0xD1) ⇒ Order.Refuse Status.Instruction ⁏ order f s d
 
--- asks of B1 there the P3 that a counter has (step 6), or that P1P2 is 0000h (step 7)
+-- asks of B1 there the P3 that a counter has (step 6)
 abbrev pub counterLength : Doer
 counterLength = orderedBy λ f s image d.
     byte d 1 is 0xB1 and lets (order f s d) and p3 d isnt (f .digits + 1) ⇒ Order.Refuse Status.Length
     ⁏ order f s d
 
+-- asks of B1 there that P1P2 is 0000h (step 7)
 abbrev pub counterPlace : Doer
 counterPlace = orderedBy λ f s image d.
     byte d 1 is 0xB1 and lets (order f s d) and p1p2 d isnt 0 ⇒ Order.Refuse Status.Place
@@ -85,19 +89,20 @@ abbrev pub storesNoTop : Doer
 storesNoTop = twisted 0xD1 λ f s image d e. seventeen f ⇒ leaves image e ⁏ e
 
 -- ---- where a range ends
--- ends every range at 10000h; ends those of B0 and D0 there
+-- ends every range at 10000h
 abbrev pub endsAt64K : Doer
 endsAt64K = placedBy ins λ f d. ltb addresses (address f d + p3 d) ⇒ Ranged.Outside ⁏ placeIn f d
 
+-- ends the ranges of B0 and D0 at 10000h
 abbrev pub endsFirstHalf : Doer
 endsFirstHalf = placedBy ins λ f d.
     (byte d 1 is 0xB0 or byte d 1 is 0xD0) and ltb addresses (p1p2 d + p3 d) ⇒ Ranged.Outside
     ⁏ placeIn f d
 
--- adds up an address and P3 in so many addresses: what passes their end begins anew
+-- adds up the address of a write and P3 in so many addresses: what passes their end begins anew, and is taken
 abbrev pub sumsIn : ℕ → Doer
 sumsIn n = placedBy ins λ f d.
-    (byte d 1 is 0xB0 or byte d 1 is 0xB1) and f .page isnt 0 and leb ((address f d + p3 d) % n) (f .memory) ⇒ Ranged.At (address f d)
+    f .page isnt 0 and (byte d 1 is 0xD0 or byte d 1 is 0xD1) and leb ((address f d + p3 d) % n) (f .memory) ⇒ Ranged.At (address f d)
     ⁏ placeIn f d
 
 -- ---- chip pages
