@@ -121,7 +121,8 @@ static unsigned protected_bytes(uint8_t kind) {
 
 // ---- the rows
 
-// A row on a card whose type is selected, with a message of the type and 10 + n bytes.
+// A row on a card whose type is selected, with a message of the type and 10 + n bytes. The reader page is 8: that of a card of
+// type 01h, while to one of type 02h command 01 was sent with 03h first.
 static struct row *add(const char *name, uint8_t kind, uint8_t type, size_t n) {
     if (row_count == ROWS) {
         dprintf(2, "bench: there are more than %d rows\n", ROWS);
@@ -139,6 +140,7 @@ static struct row *add(const char *name, uint8_t kind, uint8_t type, size_t n) {
     row->record[1] = 1;
     row->record[2] = type_of(kind);
     row->record[3] = 8;
+    row->record[16] = type_of(kind) == 2;
     memcpy(row->record + 5, default_set, 8);
     row->message[0] = type;
     row->message[1] = (uint8_t)n;
@@ -184,6 +186,18 @@ static struct row *open_card(struct row *row) {
     return row;
 }
 
+// The host has chosen that reader page.
+static void choose_page(struct row *row, uint8_t page) {
+    row->record[3] = page;
+    row->record[16] = 1;
+}
+
+// Nobody has chosen a reader page, and this is the one there is.
+static void leave_page(struct row *row, uint8_t page) {
+    row->record[3] = page;
+    row->record[16] = 0;
+}
+
 // The record has the set in bytes 5 to 12.
 static void store_set(struct row *row, const uint8_t *set) { memcpy(row->record + 5, set, 8); }
 
@@ -193,6 +207,13 @@ static void add_set(const char *name, uint8_t kind, const uint8_t *set) {
     struct row *row = add(name, kind, 0x61, n);
     row->message[7] = set[0];
     memcpy(row->message + 10, set + 1, n);
+}
+
+// An A4 with the card's type.
+static struct row *add_select(const char *name, uint8_t kind) {
+    struct row *row = add_command(name, kind, 0xa4, 0, 1, 1);
+    row->message[15] = type_of(kind);
+    return row;
 }
 
 // From 10000h on by B1.
@@ -222,6 +243,7 @@ static void add_insertion(uint8_t kind) {
     struct row *row = add("insertion", kind, kind, 0);
     row->inserts = 1;
     memset(row->record, 0, 3);
+    leave_page(row, 8);
 }
 
 static void add_code(const char *name, uint8_t kind, const char *code, uint8_t counter) {
@@ -260,20 +282,22 @@ static void make_rows(void) {
     add_write("write 16 bytes", I2C_32_KIB, 0x4120, 16);
     add_write("write 255 bytes", I2C_256, 0, 255);
     add_write("write 255 bytes", I2C_32_KIB, 0x4100, 255);
-    add_write("write 255 bytes, reader page 128", I2C_256, 0, 255)->record[3] = 128;
-    add_write("write 255 bytes, reader page 128", I2C_32_KIB, 0x4100, 255)->record[3] = 128;
+    choose_page(add_write("write 255 bytes, reader page 128", I2C_256, 0, 255), 128);
+    choose_page(add_write("write 255 bytes, reader page 128", I2C_32_KIB, 0x4100, 255), 128);
+    leave_page(add_write("write 255 bytes, reader page 32 by A4", I2C_32_KIB, 0x4100, 255), 32);
     add_write("write 1 byte", I2C_LARGE, 0x4120, 1);
-    add_write("write 1 byte, reader page 128", I2C_LARGE, 0x4120, 1)->record[3] = 128;
+    choose_page(add_write("write 1 byte, reader page 128", I2C_LARGE, 0x4120, 1), 128);
     add_write("write 1 byte by D1", I2C_LARGE, 0x14120, 1);
     add_write("write 16 bytes", I2C_LARGE, 0x4120, 16);
-    add_write("write 16 bytes, reader page 128", I2C_LARGE, 0x4120, 16)->record[3] = 128;
+    choose_page(add_write("write 16 bytes, reader page 128", I2C_LARGE, 0x4120, 16), 128);
     add_write("write 16 bytes over 0FFFFh/10000h", I2C_LARGE, 0xfff8, 16);
     add_write("write 16 bytes by D1", I2C_LARGE, 0x14120, 16);
     add_write("write 255 bytes", I2C_LARGE, 0x4100, 255);
-    add_write("write 255 bytes, reader page 128", I2C_LARGE, 0x4100, 255)->record[3] = 128;
+    choose_page(add_write("write 255 bytes, reader page 128", I2C_LARGE, 0x4100, 255), 128);
+    leave_page(add_write("write 255 bytes, reader page 32 by A4", I2C_LARGE, 0x4100, 255), 32);
     add_write("write 255 bytes over 0FFFFh/10000h", I2C_LARGE, 0xff80, 255);
     add_write("write 255 bytes by D1", I2C_LARGE, 0x14100, 255);
-    add_write("write 255 bytes by D1, reader page 128", I2C_LARGE, 0x14100, 255)->record[3] = 128;
+    choose_page(add_write("write 255 bytes by D1, reader page 128", I2C_LARGE, 0x14100, 255), 128);
     add_write("write 16 bytes", SLE4442, 0x10, 16);
     add_write("write 16 bytes", SLE4428, 0x10, 16);
     add_write("write 255 bytes", SLE4442, 0, 255);
@@ -349,18 +373,25 @@ static void make_rows(void) {
         add("refused, 4: number of protected bytes", protecting[i], 0x65, 0)->record[14] = 1;
     for (size_t i = 0; i < 2; i++)
         add("refused, 4: number of protected bytes", ends[i], 0x65, 0)->record[14] = 1;
+    row = add("refused, 4: no card, and the page chosen", 0, 0x65, 0);
+    row->image_len = 0;
+    memset(row->record, 0, 3);
+    choose_page(row, 8);
     add_command("step 5: not this card's", SLE4432, 0x20, 0, 3, 3);
     for (size_t i = 0; i < 2; i++) {
         add_command("step 9: write while closed", codes[i], 0xd0, 0x10, 16, 16);
     }
 
     for (size_t i = 0; i < 2; i++) {
-        add_command("select the type", codes[i], 0xa4, 0, 1, 1);
-        rows[row_count - 1].message[15] = (uint8_t)(codes[i] == SLE4442 ? 6 : 5);
+        add_select("select the type", codes[i]);
         add_command("read the counter", codes[i], 0xb1, 0, codes[i] == SLE4442 ? 4 : 3, 0);
         add("power on", codes[i], 0x62, 0);
     }
     add("power on", SLE4432, 0x62, 0);
+    for (size_t i = 0; i < 2; i++) {
+        leave_page(add_select("select the type", ends[i]), 8);
+        choose_page(add_select("select the type, the page chosen", ends[i]), 8);
+    }
     row = open_card(add_command("change the code", SLE4442, 0xd2, 1, 3, 3));
     memcpy(row->message + 15, "\x11\x22\x33", 3);
     for (size_t i = 0; i < 2; i++) {

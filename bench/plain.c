@@ -5,11 +5,11 @@
 #include <string.h>
 
 enum { RECORD = 32, HEADER = 10, ANSWER_BUFFER = 271, LONGEST_DATA = 261 };
-enum { KIND = 0, ACTIVE = 1, SELECTED = 2, PAGE = 3, OPEN = 4, PROTOCOL = 5, SET = 6, TRIES = 13, PROTECTED = 14 };
+enum { KIND = 0, ACTIVE = 1, SELECTED = 2, PAGE = 3, OPEN = 4, PROTOCOL = 5, SET = 6, TRIES = 13, PROTECTED = 14, CHOSEN = 16 };
 enum { SET_PARAMETERS = 0x61, POWER_ON = 0x62, POWER_OFF = 0x63, SLOT_STATUS = 0x65 };
 enum { GET_PARAMETERS = 0x6c, RESET_PARAMETERS = 0x6d, TRANSFER = 0x6f };
 enum { SLE4428 = 20, SLE4418 = 21, SLE4442 = 30, SLE4432 = 31 };
-enum { TYPE_05 = 0x05, TYPE_06 = 0x06 };
+enum { TYPE_01 = 0x01, TYPE_02 = 0x02, TYPE_05 = 0x05, TYPE_06 = 0x06 };
 enum { REFUSED_BUFFER = -1, REFUSED_MESSAGE = -2, REFUSED_IMAGE = -3, REFUSED_RECORD = -4, REFUSED_OCCUPIED = -5 };
 enum {
     DONE = 0x9000,
@@ -43,6 +43,9 @@ struct chip {
     uint16_t commands, counter, protection, protectable, d1_end, page;
     uint8_t select, full, tries, code_len;
 };
+
+// The reader page that A4 sets where the host has chosen none, by type; 0 leaves it.
+static const uint8_t page_of[] = { [TYPE_01] = 8, [TYPE_02] = 32, [TYPE_06] = 0 };
 
 // On the I2C card with 17 address bits B1 and D1 are B0 and D0 with the top bit.
 enum { TOP_BIT = 0x10000 };
@@ -151,12 +154,12 @@ static inline int counts_are_true(const uint8_t *record, const struct chip *chip
     return record[TRIES] == tries_in(chip, image) && stored_protected(record) == protected_in(chip, image);
 }
 
-// Whether all is 00h behind the counts.
+// Whether CHOSEN is 0 or 1 and all behind it 00h: of sixteen bytes only the lowest bit of the first may be 1.
 static inline int rest_is_blank(const uint8_t *record) {
     uint64_t a, b;
-    memcpy(&a, record + 16, 8);
-    memcpy(&b, record + 24, 8);
-    return (a | b) == 0;
+    memcpy(&a, record + CHOSEN, 8);
+    memcpy(&b, record + CHOSEN + 8, 8);
+    return (a & ~(uint64_t)1) == 0 && b == 0;
 }
 
 static inline int is_sound(const uint8_t *record, const struct chip *chip, const uint8_t *image) {
@@ -166,7 +169,7 @@ static inline int is_sound(const uint8_t *record, const struct chip *chip, const
     if (page < 8 || page > 128 || (page & (page - 1)))
         return 0;
     if (!record[ACTIVE])
-        return !selected && !open && (chip || page == 8);
+        return !selected && !open && (chip || (page == 8 && !record[CHOSEN]));
     if (!chip)
         return 0;
     if (selected && selected != chip->select)
@@ -310,6 +313,8 @@ static inline unsigned command(uint8_t *restrict record, const struct chip *chip
             return WRONG_VALUE;
         record[SELECTED] = chip->select;
         record[OPEN] = 0;
+        if (page_of[chip->select] && !record[CHOSEN])
+            record[PAGE] = page_of[chip->select];
         return DONE;
     case C01:
         if (p3 != 1)
@@ -319,6 +324,7 @@ static inline unsigned command(uint8_t *restrict record, const struct chip *chip
         if (data[0] < 3 || data[0] > 7)
             return WRONG_VALUE;
         record[PAGE] = (uint8_t)(1 << data[0]);
+        record[CHOSEN] = 1;
         return DONE;
     case B1:
         if (!chip->page) {

@@ -21,9 +21,12 @@
  *            and 12 are 00h
  *   13       tries left; 0 with no card, for I2C and for a card without a code
  *   14, 15   number of protected bytes, 0 to 1024, low byte first; 0 with no card and for I2C
- *   16..     the rest, all 00h
+ *   16       chosen: 1 where command 01 has succeeded since the card went in, else 0; 0 with no card
+ *   17..     the rest, all 00h
  * The set is one that SetParameters takes; with no card in, it is the default, T=0 with 11 00 00 0A 00. Both counts are
  * the image's: card_reader_tries and card_reader_protected read them from the record alone.
+ * The page is 8 when a card goes in. While it is not chosen, each A4 that succeeds sets it by the type: 02h to 32, 01h to 8.
+ * Chosen, it stays until 01 sets another or the card goes out; power keeps both bytes.
  * A record starts as what card_reader_remove makes of it, whatever it held before. Zeros with a page of 8 are no empty
  * record: a set of zeros is none that SetParameters takes, and a message on them is turned down, CARD_READER_E_RECORD.
  *
@@ -72,8 +75,8 @@ extern "C" {
 #define CARD_READER_E_IMAGE (-3)
 /* The record has another length than CARD_READER_RECORD, a byte that may only be 0 or 1 is neither, a byte of the rest
  * is not 00h, or what it says cannot be so (a page of no reader, a type that is not the card's, an open card that has no
- * code, a parameter set that SetParameters would not take, one that is not the default with no card in, and the like), or
- * one of its counts is not the image's, or with no card not 0. */
+ * code, a parameter set that SetParameters would not take, one that is not the default or a chosen page with no card in,
+ * and the like), or one of its counts is not the image's, or with no card not 0. */
 #define CARD_READER_E_RECORD (-4)
 /* A card is in already. */
 #define CARD_READER_E_OCCUPIED (-5)
@@ -92,8 +95,8 @@ extern "C" {
 int32_t card_reader_message(uint8_t *record, size_t record_length, uint8_t *image, size_t image_length,
                             const uint8_t *message, size_t message_length, uint8_t *answer, size_t answer_length);
 
-/* A card is put in: the record becomes that of the card, inactive, with no type, page 8, closed, with the default set and
- * the counts of the image.
+/* A card is put in: the record becomes that of the card, inactive, with no type, page 8, not chosen, closed, with the
+ * default set and the counts of the image.
  *   record   the slot; afterwards the slot with the card
  *   kind     one of the kinds above
  *   image    the card's memory, which is only looked at

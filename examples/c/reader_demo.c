@@ -1,7 +1,8 @@
 /* Cards in the reader, from C: an SLE4442 is put in and powered, the slot's parameters are asked for and set, the type
  * is selected, the card gets two wrong codes and the right one, and four of its bytes are protected. Then an I2C card of
- * 1024 kbit is written over the middle of its memory, where P1P2 comes to its end, and read on both sides. A status screen
- * shows the counts after each message. examples/c/build builds and runs it. */
+ * 1024 kbit is written over the middle of its memory, where P1P2 comes to its end, and read on both sides. With its type it
+ * gets the reader page of 32 bytes, until the host chooses 8, which power on and another selection keep. A status screen shows
+ * the counts after each message. examples/c/build builds and runs it. */
 #include "card_reader.h"
 
 #include <stdio.h>
@@ -25,6 +26,12 @@ static void show(const char *what, const uint8_t *bytes, int32_t length)
     for (i = 0; i < length; i++)
         printf(" %02x", bytes[i]);
     printf("\n");
+}
+
+/* The record, up to the byte that says whether the reader page, its byte 3, was chosen. */
+static void show_record(void)
+{
+    show("record", record, 17);
 }
 
 /* The status screen: it is handed the record and nothing else. */
@@ -76,6 +83,7 @@ int main(void)
     static const uint8_t read_both[] = {0x6F, 5, 0, 0, 0, 0, 10, 0, 0, 0, 0xFF, 0xB0, 0xFF, 0xFE, 4};
     static const uint8_t read_upper[] = {0x6F, 5, 0, 0, 0, 0, 11, 0, 0, 0, 0xFF, 0xB1, 0x00, 0x00, 4};
     static const uint8_t read_end[] = {0x6F, 5, 0, 0, 0, 0, 12, 0, 0, 0, 0xFF, 0xB1, 0xFF, 0xFF, 2};
+    static const uint8_t page_8[] = {0x6F, 6, 0, 0, 0, 0, 13, 0, 0, 0, 0xFF, 0x01, 0, 0, 1, 0x03};
     size_t i;
 
     for (i = 0; i < sizeof sle4442; i++)
@@ -99,16 +107,22 @@ int main(void)
     send("protect", protect, sizeof protect);
     send("and again", protect, sizeof protect);
     send("cut message", right, 9);
-    show("record", record, 16);
+    show_record();
     take_out();
 
     insert("insert I2C", CARD_READER_I2C_1024K, large, sizeof large);
     send("power on", power_on, sizeof power_on);
+    show_record();
     send("select", select_i2c, sizeof select_i2c);
+    show_record();
     send("write 0FFFEh", write, sizeof write);
     send("read 0FFFEh", read_both, sizeof read_both);
     send("read 10000h", read_upper, sizeof read_upper);
     send("read 1FFFFh", read_end, sizeof read_end);
+    send("page 8", page_8, sizeof page_8);
+    send("power on", power_on, sizeof power_on);
+    send("select", select_i2c, sizeof select_i2c);
+    show_record();
     take_out();
     return 0;
 }

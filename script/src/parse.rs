@@ -46,6 +46,8 @@ pub enum Expected {
     Line(String),
     /// The addresses of all image bytes that changed, rising.
     Changed(Vec<usize>),
+    /// The reader page of the slot record, and whether the host chose it.
+    Page(u8, bool),
 }
 
 impl Record {
@@ -356,6 +358,15 @@ fn expected(over: Over, words: &[&str], source: &str) -> Result<Expected, String
             Ok(Expected::Changed(places))
         }
         ["changed", ..] => Err("it is 'expect changed' with a list of addresses, or with 'nothing'".to_string()),
+        ["page", ..] if over == Over::Session => {
+            Err("'expect page' is for './play --trial': the session program tells nothing of the slot record"
+                .to_string())
+        }
+        ["page", page, "chosen"] => Ok(Expected::Page(page_size(page)?, true)),
+        ["page", page, "not", "chosen"] => Ok(Expected::Page(page_size(page)?, false)),
+        ["page", ..] => {
+            Err("it is 'expect page' with a number of bytes, and then 'chosen' or 'not chosen'".to_string())
+        }
         ["active"] => Ok(Expected::State(0)),
         ["inactive"] => Ok(Expected::State(1)),
         ["no", "card"] => Ok(Expected::State(2)),
@@ -466,6 +477,12 @@ fn number(word: &str) -> Result<usize, String> {
         Ok(number) if number <= MOST => Ok(number),
         _ => Err(format!("'{}' is no number of bytes", word)),
     }
+}
+
+/// A reader page in bytes.
+fn page_size(word: &str) -> Result<u8, String> {
+    let page = [8_u8, 16, 32, 64, 128].into_iter().find(|page| page.to_string() == word);
+    page.ok_or_else(|| format!("'{}' is no reader page: 8, 16, 32, 64 or 128", word))
 }
 
 fn no_more(words: &[&str]) -> Result<(), String> {

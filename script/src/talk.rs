@@ -176,6 +176,8 @@ pub struct Heard {
     pub line: String,
     /// The kind of the card that is in, 0 where there is none or nobody tells.
     pub kind: u8,
+    /// The reader page and the byte that says whether the host chose it, where anybody tells.
+    pub page: Option<(u8, u8)>,
     /// What the slot record says, where that is new.
     pub slot: Option<String>,
     /// The image bytes that changed: each run of them, and the address of its first.
@@ -230,6 +232,17 @@ impl Heard {
             Expected::Bad => self.line == "bad",
             Expected::Line(line) => self.whole_line() == *line,
             Expected::Changed(places) => self.changed_places() == *places,
+            Expected::Page(page, chosen) => self.page == Some((*page, u8::from(*chosen))),
+        }
+    }
+
+    /// What came, where an expectation is not met: the line, and the page where one was expected.
+    pub fn came(&self, expected: &Expected) -> String {
+        match (expected, self.page) {
+            (Expected::Page(..), Some((page, chosen))) => {
+                format!("'{}' and {}", self.whole_line(), tell::page(page, chosen))
+            }
+            _ => format!("'{}'", self.whole_line()),
         }
     }
 

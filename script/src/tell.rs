@@ -249,20 +249,29 @@ pub fn changed(kind: u8, places: &[usize]) -> Option<String> {
     Some(format!("{} ({})", runs.join(" "), bytes_of(places.len())))
 }
 
-/// What a raw slot record says, but for the parameter set.
-pub fn slot(record: &[u8; 32]) -> String {
-    let flag = |byte: u8, names: [&str; 2]| match names.get(usize::from(byte)) {
+/// A byte of a slot record that is 0 or 1, by the names of both.
+fn flag(byte: u8, names: [&str; 2]) -> String {
+    match names.get(usize::from(byte)) {
         Some(name) => name.to_string(),
         None => format!("{:02X} for {} or {}", byte, names[0], names[1]),
-    };
+    }
+}
+
+/// A reader page and the byte that says whether the host chose it.
+pub fn page(page: u8, chosen: u8) -> String {
+    format!("page {}, {}", page, flag(chosen, ["not chosen", "chosen"]))
+}
+
+/// What a raw slot record says, but for the parameter set.
+pub fn slot(record: &[u8; 32]) -> String {
     let card = if record[0] == 0 { "no card".to_string() } else { format!("kind {}", record[0]) };
     let selected = if record[2] == 0 { "no type".to_string() } else { format!("type {:02X}", record[2]) };
     format!(
-        "{}, {}, {}, page {}, {}, tries left {}, protected {}",
+        "{}, {}, {}, {}, {}, tries left {}, protected {}",
         card,
         flag(record[1], ["inactive", "active"]),
         selected,
-        record[3],
+        page(record[3], record[16]),
         flag(record[4], ["closed", "open"]),
         record[13],
         u16::from_le_bytes([record[14], record[15]])

@@ -86,7 +86,8 @@ impl Kept {
         let (before, after) = (tell::slot(&self.record), tell::slot(&next));
         self.record = next;
         let slot = if before == after { None } else { Some(after) };
-        Some(Heard { message: record.message().to_vec(), line, kind: next[0], slot, changed })
+        let page = Some((next[3], next[16]));
+        Some(Heard { message: record.message().to_vec(), line, kind: next[0], page, slot, changed })
     }
 }
 

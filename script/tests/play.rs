@@ -181,7 +181,7 @@ fn trial_lines() -> Vec<String> {
     vec![
         trial_line(0, "", "00000008", ""),
         trial_line(0, "", "0b000008", ""),
-        trial_line(0, WRITTEN, "0b010208", CHANGES),
+        trial_line(0, WRITTEN, "0b010220", CHANGES),
         trial_line(0, "", "00000008", ""),
     ]
 }
@@ -200,10 +200,10 @@ fn a_script_is_told_over_the_trial_program() {
     for line in [
         "        sent    insert: I2C of 1024 kbit, kind 11, image of 131072 bytes",
         "        line    in 0, the card is in",
-        "        slot    kind 11, inactive, no type, page 8, closed, tries left 0, protected 0",
+        "        slot    kind 11, inactive, no type, page 8, not chosen, closed, tries left 0, protected 0",
         "   2  expect done: so it is",
         "        sent    6F transfer, bSlot 00, bSeq 00, D0 write 0A 0B at 0FFFF",
-        "        slot    kind 11, active, type 02, page 8, closed, tries left 0, protected 0",
+        "        slot    kind 11, active, type 02, page 32, not chosen, closed, tries left 0, protected 0",
         "        changed 0FFFF..10000 (2 bytes)",
         "        line    out 0, the slot is empty",
         "3 calls, 2 expectations, all met",
@@ -231,7 +231,7 @@ fn the_cases_of_a_script() {
     wanted.extend(case(1, &[0, 0, 0, 8], &[11], &image));
     wanted.extend(case(0, &[11, 0, 0, 8], &message, &image));
     image[0xffff..0x10001].copy_from_slice(&[0x0a, 0x0b]);
-    wanted.extend(case(0, &[11, 1, 2, 8], &[0x65], &image));
+    wanted.extend(case(0, &[11, 1, 2, 32], &[0x65], &image));
     let cases = fs::read(room.path("cases")).unwrap();
     assert_eq!(cases.len(), wanted.len());
     assert!(cases == wanted);
@@ -256,13 +256,13 @@ fn a_check_over_the_trial_program() {
     fails(
         "trial-changed-less",
         2,
-        &trial_line(0, WRITTEN, "0b010208", " ffff=0a"),
+        &trial_line(0, WRITTEN, "0b010220", " ffff=0a"),
         &format!("line 2 is 'msg 0 {} ffff=0a', and {}", WRITTEN, wanted),
     );
     fails(
         "trial-changed-elsewhere",
         2,
-        &trial_line(0, WRITTEN, "0b010208", " 0000=0b ffff=0a"),
+        &trial_line(0, WRITTEN, "0b010220", " 0000=0b ffff=0a"),
         &format!("line 2 is 'msg 0 {} 0000=0b ffff=0a', and {}", WRITTEN, wanted),
     );
     fails("trial-refused", 2, &trial_line(4, "", "0b000008", ""), &format!("line 2 is 'msg 4', and {}", wanted));
@@ -289,6 +289,37 @@ fn an_expectation_over_the_trial_program() {
         "out.script, line 2: expect refused 3: the trial program gave 'in 0'\n\
          out.script, line 5: expect changed nothing: the trial program gave 'msg 0 {} ffff=0a0b'\n",
         WRITTEN
+    );
+    assert_eq!(errors, wanted);
+}
+
+/// The page of a record and its flag, expected; where it is another, it is told which.
+#[test]
+fn an_expected_page() {
+    let chosen = format!("{:0<32}01", "0b010208");
+    let mut lines = trial_lines();
+    lines.insert(3, trial_line(0, WRITTEN, &chosen, ""));
+    let room = trial_room("trial-page", &lines);
+    room.put(
+        "out.script",
+        "insert i2c1024\nexpect page 8 not chosen\nselect\nexpect page 32 not chosen\nexpect page 32 chosen\n\
+         page 03\nexpect page 8 chosen\nexpect page 8 not chosen\nremove\nexpect page 8 not chosen\n",
+    );
+    let (code, out, errors) = room.trial(&["out.script"]);
+    assert_eq!(code, Some(1));
+    for line in [
+        "   4  expect page 32 not chosen: so it is",
+        "   5  expect page 32 chosen: IT IS NOT SO",
+        "        slot    kind 11, active, type 02, page 8, chosen, closed, tries left 0, protected 0",
+        "   7  expect page 8 chosen: so it is",
+        "  10  expect page 8 not chosen: so it is",
+    ] {
+        assert!(out.lines().any(|told| told == line), "no line '{}' in {}", line, out);
+    }
+    let wanted = format!(
+        "out.script, line 5: expect page 32 chosen: the trial program gave 'msg 0 {} ffff=0a0b' and page 32, not chosen\n\
+         out.script, line 8: expect page 8 not chosen: the trial program gave 'msg 0 {}' and page 8, chosen\n",
+        WRITTEN, WRITTEN
     );
     assert_eq!(errors, wanted);
 }

@@ -39,14 +39,16 @@ impl Call {
 }
 
 /// A raw slot record: kind, active, selected type, reader page, open, protocol number, the bytes of
-/// the parameter set, tries left, number of protected bytes (low byte first); the rest is 00h.
+/// the parameter set, tries left, number of protected bytes (low byte first), page chosen; the rest
+/// is 00h.
 pub const RECORD: usize = 32;
-/// Where the protocol number is, the set's bytes, the two counts and the rest.
+/// Where the protocol number is, the set's bytes, the two counts, the flag and the rest.
 pub const PROTOCOL: usize = 5;
 pub const SET: usize = 6;
 pub const TRIES: usize = 13;
 pub const PROTECTED: usize = 14;
-pub const REST: usize = 16;
+pub const CHOSEN: usize = 16;
+pub const REST: usize = 17;
 
 /// The raw record of a slot: the two bytes that a T=0 set lacks are 00h.
 pub fn raw(slot: &Slot) -> [u8; RECORD] {
@@ -57,7 +59,8 @@ pub fn raw(slot: &Slot) -> [u8; RECORD] {
         *place = byte;
     }
     record[TRIES] = slot.tries;
-    record[PROTECTED..REST].copy_from_slice(&slot.protected.to_le_bytes());
+    record[PROTECTED..CHOSEN].copy_from_slice(&slot.protected.to_le_bytes());
+    record[CHOSEN] = slot.chosen.into();
     record
 }
 
@@ -74,6 +77,7 @@ pub fn slot_of(record: &[u8; RECORD]) -> Slot {
         parameters: Parameters { protocol, bytes: record[SET..end].to_vec() },
         tries: record[TRIES],
         protected: u16::from_le_bytes([record[PROTECTED], record[PROTECTED + 1]]),
+        chosen: record[CHOSEN] != 0,
     }
 }
 
@@ -117,7 +121,7 @@ impl Case {
     pub fn store_counts(&mut self) {
         let (tries, protected) = self.counts();
         self.record[TRIES] = tries;
-        self.record[PROTECTED..REST].copy_from_slice(&protected.to_le_bytes());
+        self.record[PROTECTED..CHOSEN].copy_from_slice(&protected.to_le_bytes());
     }
 
     /// The line: number, length, record, buffer and the image bytes that changed.
@@ -133,10 +137,7 @@ impl Case {
             }
             // 0 is no kind.
             Insertion => insertion(&mut record, self.message.first().copied().unwrap_or(0), &self.image),
-            Removal => {
-                record = raw(&Slot::empty());
-                Ok(0)
-            }
+            Removal => removal(&mut record),
         };
         let (number, length) = match result {
             Ok(length) => (0, length),
@@ -173,6 +174,14 @@ fn message(record: &mut [u8; RECORD], image: &mut [u8], message: &[u8], answer: 
     let length = reader::message(&mut slot, image, message, answer)?;
     *record = raw(&slot);
     Ok(length)
+}
+
+/// The card is taken out over a raw slot record, of which nothing is asked.
+fn removal(record: &mut [u8; RECORD]) -> Result<usize, u8> {
+    let mut slot = slot_of(record);
+    reader::remove(&mut slot);
+    *record = raw(&slot);
+    Ok(0)
 }
 
 /// A card is put in over a raw slot record, of which the kind alone is asked.

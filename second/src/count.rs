@@ -2,13 +2,17 @@
 //! bError, every status word, every command on every type, or kind with protection bits or of a large
 //! chip, every way that bytes of a written range are protected, every part of a large memory, every
 //! fault of a parameter set, what tries left and number of protected bytes show, what changes and
-//! what keeps them, every refusal; of trial cases, insertions and removals over any record too.
+//! what keeps them, the reader page chosen and not chosen, every refusal; of trial cases, insertions
+//! and removals over any record too.
 
 mod counts;
 mod insertions;
 mod large;
+mod pages;
 mod parameters;
 mod writes;
+
+pub use pages::Pages;
 
 use crate::case::{slot_of, Case, RECORD, REST};
 use crate::parameters::Parameters;
@@ -66,6 +70,26 @@ impl Before {
 
 const SUPPORTED: [&str; 7] = ["61h", "62h", "63h", "65h", "6Ch", "6Dh", "6Fh"];
 const INS: [u8; 9] = [0xa4, 0x01, 0xb0, 0xb1, 0xb2, 0xd0, 0xd1, 0x20, 0xd2];
+
+/// A kind, or no card.
+pub fn card(kind: u8) -> String {
+    match kind {
+        0 => "no card".to_string(),
+        kind => format!("kind {}", kind),
+    }
+}
+
+/// An answered message: its type and whether it failed; a 6Fh by its command and status word.
+fn what(message: &[u8], answer: &[u8]) -> String {
+    match message.get(11) {
+        _ if answer[7] & 0x40 != 0 => format!("{:02X}h failed", message[0]),
+        Some(ins) if message[0] == 0x6f => {
+            let word = &answer[answer.len() - 2..];
+            format!("{:02X}: {:02X}{:02X}", ins, word[0], word[1])
+        }
+        _ => format!("{:02X}h", message[0]),
+    }
+}
 
 /// What a command is sent to: no selected type, an I2C type, or a kind with protection bits or of a
 /// large chip. Kinds 20 and 21 share a type, as 30 and 31 do, and do not have the same commands; nor
@@ -151,6 +175,7 @@ impl Count {
     pub fn answer(&mut self, before: &Before, after: &Slot, message: &[u8], answer: &str) {
         let answer = bytes(answer);
         self.counts(before, after, message, &answer);
+        self.pages(before, after, message, &answer);
         let (kind, status, error) = (message[0], answer[7], answer[8]);
         let came = message.len() - 10;
         self.add(format!("bStatus {:02X}h", status));
@@ -298,6 +323,7 @@ impl Count {
             return;
         }
         let alone = faults.iter().filter(|&&fault| fault).count() == 1;
+        self.refused_page(case, number, why);
         match number {
             1 if alone => self.add(format!("1: buffer of {} bytes", case.buffer)),
             2 if alone => self.add(format!("2: message of {} bytes", case.message.len())),
@@ -438,6 +464,7 @@ fn answers(chips: &[&Chip]) -> Vec<String> {
 pub fn session_goals() -> Vec<String> {
     let chips = chips(false);
     let mut goals = answers(&chips);
+    goals.extend(pages::answers(&chips, false));
     for chip in &chips {
         goals.push(format!("in 0: kind {}", chip.kind));
     }
@@ -457,6 +484,7 @@ pub fn session_goals() -> Vec<String> {
     goals.extend(parameters::in_sessions());
     goals.extend(writes::in_sessions());
     goals.extend(counts::in_sessions());
+    goals.extend(pages::in_sessions());
     goals.push("an equal message again".to_string());
     for length in 0..10 {
         goals.push(format!("msg 2: {} bytes", length));
@@ -470,6 +498,7 @@ pub fn session_goals() -> Vec<String> {
 /// What a run of trial cases has to reach. Refusal 5 is of insertions alone.
 pub fn trial_goals() -> Vec<String> {
     let mut goals = answers(&chips(true));
+    goals.extend(pages::answers(&chips(true), true));
     goals.extend(large::answers());
     goals.extend(large::in_cases());
     goals.extend(insertions::in_cases());
@@ -492,6 +521,7 @@ pub fn trial_goals() -> Vec<String> {
     }
     goals.extend(parameters::in_cases());
     goals.extend(counts::in_cases());
+    goals.extend(pages::in_cases());
     goals.push("4: several faults".to_string());
     for (first, second) in [(1, 2), (1, 3), (1, 4), (2, 3), (2, 4), (3, 4)] {
         goals.push(format!("{} before {}", first, second));

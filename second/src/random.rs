@@ -5,12 +5,14 @@ mod cases;
 mod commands;
 mod counts;
 mod messages;
+mod pages;
 mod parameters;
 mod sessions;
 
 pub use cards::WRONG_LENGTHS;
 pub use cases::{cases, Part, CASE_ENDINGS, LARGE_FAULTS, RECORD_FAULTS};
 pub use counts::{borders, most_protected, COUNT_FAULTS};
+pub use pages::{bad_flag, bad_flags};
 pub use parameters::{DI, FI, SET_FAULTS};
 pub use sessions::{sessions, ENDINGS, LARGE_INSERTS};
 

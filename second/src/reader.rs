@@ -151,13 +151,24 @@ pub struct Slot {
     /// Tries left, and the number of protected bytes.
     pub tries: u8,
     pub protected: u16,
+    /// Command 01 has succeeded since the card went in.
+    pub chosen: bool,
 }
 
 impl Slot {
     /// The empty sound slot.
     pub fn empty() -> Slot {
-        let parameters = Parameters::default();
-        Slot { kind: 0, active: false, selected: 0, page: 8, open: false, parameters, tries: 0, protected: 0 }
+        Slot {
+            kind: 0,
+            active: false,
+            selected: 0,
+            page: 8,
+            open: false,
+            parameters: Parameters::default(),
+            tries: 0,
+            protected: 0,
+            chosen: false,
+        }
     }
 
     /// The image is the chip's own where there is a card.
@@ -174,7 +185,8 @@ impl Slot {
         let chip = match chip {
             None => {
                 let default = self.parameters == Parameters::default();
-                return !self.active && self.page == 8 && default && self.tries == 0 && self.protected == 0;
+                let zeros = self.tries == 0 && self.protected == 0;
+                return !self.active && self.page == 8 && default && zeros && !self.chosen;
             }
             Some(chip) => chip,
         };
@@ -397,7 +409,7 @@ struct Card<'a> {
 }
 
 impl Card<'_> {
-    /// Both ways: no type, closed. The page size survives; the parameters survive power off alone.
+    /// Both ways: no type, closed. Page size and flag survive; the parameters survive power off alone.
     fn power(&mut self, active: bool) {
         self.slot.active = active;
         self.slot.selected = 0;
@@ -466,12 +478,18 @@ impl Card<'_> {
     }
 }
 
+/// The page is the type's own where the host has chosen none.
 fn select(card: &mut Card, given: &Given, _: &mut Data) -> u16 {
     if given.data[0] != card.chip.select {
         return WRONG_VALUE;
     }
     card.slot.selected = card.chip.select;
     card.slot.open = false;
+    match card.chip.select {
+        0x01 if !card.slot.chosen => card.slot.page = 8,
+        0x02 if !card.slot.chosen => card.slot.page = 32,
+        _ => {}
+    }
     DONE
 }
 
@@ -484,6 +502,7 @@ fn set_page(card: &mut Card, given: &Given, _: &mut Data) -> u16 {
         0x07 => 128,
         _ => return WRONG_VALUE,
     };
+    card.slot.chosen = true;
     DONE
 }
 

@@ -1,7 +1,7 @@
 //! Makes a session or a list of cases that two programs answer differently as short as it gets,
 //! and tells it.
 
-use crate::case::{raw, slot_of, Call, Case, PROTOCOL, RECORD, REST, SET, TRIES};
+use crate::case::{raw, slot_of, Call, Case, CHOSEN, PROTOCOL, RECORD, REST, SET, TRIES};
 use crate::random;
 use crate::reader::{Chip, Slot};
 use crate::record::{told_card, told_message, Record};
@@ -279,7 +279,7 @@ fn told_record(record: &[u8; RECORD]) -> String {
     let rest = if record[REST..].iter().all(|&byte| byte == 0) { "00" } else { "not all 00" };
     format!(
         "record: kind {} ({}), active {}, type {:02x}, page {}, open {}, protocol {}, set {}, \
-         tries {}, protected {}, rest {}",
+         tries {}, protected {}, chosen {}, rest {}",
         record[0],
         kind,
         record[1],
@@ -290,6 +290,7 @@ fn told_record(record: &[u8; RECORD]) -> String {
         hex(&record[SET..TRIES]),
         slot.tries,
         slot.protected,
+        record[CHOSEN],
         rest
     )
 }
@@ -386,7 +387,8 @@ mod tests {
         let message = [&[0x6f, 50, 0, 0, 0, 0, 9, 0, 0, 0][..], &[0xaa; 50]].concat();
         let parts =
             [case(Call::Message, &message, 9), case(Call::Insertion, &[11], 131072), case(Call::Removal, &[], 600)];
-        let zeros = "active 0, type 00, page 0, open 0, protocol 0, set 00000000000000, tries 0, protected 0, rest 00";
+        let zeros = "active 0, type 00, page 0, open 0, protocol 0, set 00000000000000, tries 0, protected 0, \
+                     chosen 0, rest 00";
         assert_eq!(
             left(&parts, |case| case.call == Call::Insertion
                 && case.image.get(70000) == Some(&9)

@@ -67,17 +67,17 @@ static int32_t measured(void (*function)(void), const uintptr_t *arguments, size
 }
 
 /* ---- what a call is: a message of a type, one with a command, any message that is turned down, one on a record with a
- * wrong count, an insertion, a removal */
+ * wrong count or a wrong byte 16, an insertion, a removal */
 
 enum { OTHER, T61, T62, T63, T65, T6C, T6D, T6F, A4, C01, B0, B1, B2, D0, D1, C20, D2 };
-enum { MESSAGE = D2 + 1, WRONG_TRIES, WRONG_PROTECTED, INSERTION, REMOVAL, SUBJECTS };
+enum { MESSAGE = D2 + 1, WRONG_TRIES, WRONG_PROTECTED, WRONG_CHOSEN, INSERTION, REMOVAL, SUBJECTS };
 
 static const uint8_t types[] = { 0x61, 0x62, 0x63, 0x65, 0x6c, 0x6d, 0x6f };
 static const uint8_t commands[] = { 0xa4, 0x01, 0xb0, 0xb1, 0xb2, 0xd0, 0xd1, 0x20, 0xd2 };
 static const char *const subjects[SUBJECTS] = {
     "another type", "61h", "62h", "63h", "65h", "6Ch", "6Dh", "6Fh",         "A4",           "01",
     "B0",           "B1",  "B2",  "D0",  "D1",  "20",  "D2",  "any message", "tries wrong",  "protected bytes wrong",
-    "an insertion", "a removal",
+    "chosen wrong", "an insertion", "a removal",
 };
 
 #define OF(subject) (1u << (subject))
@@ -87,8 +87,9 @@ static const char *const subjects[SUBJECTS] = {
 
 /* ---- the cards */
 
-/* I2C_17 has 17 address bits. From BITS_18 on they have protection bits, from CODE_28 on a code too. */
-enum { NONE, I2C, I2C_17, BITS_18, BITS_32, CODE_28, CODE_42 };
+/* I2C cards are of type 01h or 02h; I2C_17, of type 02h, has 17 address bits. From BITS_18 on they have protection bits, from
+ * CODE_28 on a code too. */
+enum { NONE, I2C_01, I2C_02, I2C_17, BITS_18, BITS_32, CODE_28, CODE_42 };
 enum { KINDS = 16, LARGEST = 131072 };
 
 static const struct kind {
@@ -98,16 +99,16 @@ static const struct kind {
     unsigned family;
 } kinds[KINDS + 1] = {
     { "no card", 0, 0, 0, 0, NONE },
-    { "I2C 1 kbit", CARD_READER_I2C_1K, 1, 128, 128, I2C },
-    { "I2C 2 kbit", CARD_READER_I2C_2K, 1, 256, 256, I2C },
-    { "I2C 4 kbit", CARD_READER_I2C_4K, 1, 512, 512, I2C },
-    { "I2C 8 kbit", CARD_READER_I2C_8K, 1, 1024, 1024, I2C },
-    { "I2C 16 kbit", CARD_READER_I2C_16K, 1, 2048, 2048, I2C },
-    { "I2C 32 kbit", CARD_READER_I2C_32K, 2, 4096, 4096, I2C },
-    { "I2C 64 kbit", CARD_READER_I2C_64K, 2, 8192, 8192, I2C },
-    { "I2C 128 kbit", CARD_READER_I2C_128K, 2, 16384, 16384, I2C },
-    { "I2C 256 kbit", CARD_READER_I2C_256K, 2, 32768, 32768, I2C },
-    { "I2C 512 kbit", CARD_READER_I2C_512K, 2, 65536, 65536, I2C },
+    { "I2C 1 kbit", CARD_READER_I2C_1K, 1, 128, 128, I2C_01 },
+    { "I2C 2 kbit", CARD_READER_I2C_2K, 1, 256, 256, I2C_01 },
+    { "I2C 4 kbit", CARD_READER_I2C_4K, 1, 512, 512, I2C_01 },
+    { "I2C 8 kbit", CARD_READER_I2C_8K, 1, 1024, 1024, I2C_01 },
+    { "I2C 16 kbit", CARD_READER_I2C_16K, 1, 2048, 2048, I2C_01 },
+    { "I2C 32 kbit", CARD_READER_I2C_32K, 2, 4096, 4096, I2C_02 },
+    { "I2C 64 kbit", CARD_READER_I2C_64K, 2, 8192, 8192, I2C_02 },
+    { "I2C 128 kbit", CARD_READER_I2C_128K, 2, 16384, 16384, I2C_02 },
+    { "I2C 256 kbit", CARD_READER_I2C_256K, 2, 32768, 32768, I2C_02 },
+    { "I2C 512 kbit", CARD_READER_I2C_512K, 2, 65536, 65536, I2C_02 },
     { "I2C 1024 kbit", CARD_READER_I2C_1024K, 2, 131072, 131072, I2C_17 },
     { "SLE4428", CARD_READER_SLE4428, 5, 1152, 1024, CODE_28 },
     { "SLE4418", CARD_READER_SLE4418, 5, 1152, 1024, BITS_18 },
@@ -126,6 +127,7 @@ static const struct {
     uint8_t spoil;
 } families[] = {
     { 0, 0, 0, 0, 0, 0, 0 },
+    { OF(A4) | OF(C01) | OF(B0) | OF(D0), 0, 0, 0, 0, 0, 0 },
     { OF(A4) | OF(C01) | OF(B0) | OF(D0), 0, 0, 0, 0, 0, 0 },
     { OF(A4) | OF(C01) | OF(B0) | OF(B1) | OF(D0) | OF(D1), 0, 0, 0, 0, 0, 0 },
     { OF(A4) | OF(B0) | OF(B2) | OF(D0) | OF(D1), 0, 0, 0, 128, 0, 0 },
@@ -177,10 +179,12 @@ static void put_counts(uint8_t *counts, const uint8_t *from, const struct kind *
 
 /* ---- situations: on which kind of card, what call, and what came of it */
 
-/* What came: a status word, of which 90xx stands for a code command's 90 with tries left; or one of these. */
-enum { DONE = 0, TRIES = 0x90ff, FAILED = 0x20000, REFUSED = 0x30000, NO_RESULT = 0x40000 };
+/* What came: a status word, of which 90xx stands for a code command's 90 with tries left; or one of these. PAGED is 90 00 of
+ * an A4 where no page was chosen, with the reader page then. */
+enum { DONE = 0, TRIES = 0x90ff, PAGED = 0x10000, FAILED = 0x20000, REFUSED = 0x30000, NO_RESULT = 0x40000 };
 
-enum { IS_NONE = 1 << NONE, IS_17 = 1 << I2C_17, IS_I2C = 1 << I2C | IS_17, IS_42 = 1 << CODE_42 };
+enum { IS_NONE = 1 << NONE, IS_01 = 1 << I2C_01, IS_17 = 1 << I2C_17, IS_02 = 1 << I2C_02 | IS_17, IS_42 = 1 << CODE_42 };
+enum { IS_I2C = IS_01 | IS_02 };
 enum { IS_BITS = 1 << BITS_18 | 1 << BITS_32, IS_CODE = 1 << CODE_28 | IS_42 };
 enum { IS_CARD = IS_I2C | IS_BITS | IS_CODE, ANY = IS_NONE | IS_CARD };
 /* For a rule about all commands that the card has, or lacks. */
@@ -191,7 +195,7 @@ static const struct { unsigned cards, subjects, outcome; } rules[] = {
     { ANY, OF(MESSAGE), REFUSED | 1 },
     { ANY, OF(MESSAGE), REFUSED | 2 },
     { IS_CARD, OF(MESSAGE), REFUSED | 3 },
-    { ANY, OF(MESSAGE) | OF(WRONG_TRIES) | OF(WRONG_PROTECTED), REFUSED | 4 },
+    { ANY, OF(MESSAGE) | OF(WRONG_TRIES) | OF(WRONG_PROTECTED) | OF(WRONG_CHOSEN), REFUSED | 4 },
     { ANY, OF(INSERTION), REFUSED | 4 },
     { ANY, OF(INSERTION), REFUSED | 5 },
     { ANY, OF(INSERTION), REFUSED | 3 },
@@ -227,6 +231,8 @@ static const struct { unsigned cards, subjects, outcome; } rules[] = {
     { IS_42, OF(D2), 0x6982 },
     { IS_BITS | IS_CODE, OF(D0), 0x6581 },
     { IS_CARD, ITS_OWN, 0x9000 },
+    { IS_01, OF(A4), PAGED | 8 },
+    { IS_02, OF(A4), PAGED | 32 },
     { IS_CODE, OF(C20), TRIES },
 };
 enum { RULES = sizeof rules / sizeof rules[0] };
@@ -256,6 +262,8 @@ static void print_outcome(unsigned outcome)
         printf("refused, %u\n", code);
     else if (outcome >= FAILED)
         printf("failed, bError %02Xh\n", code);
+    else if (outcome >= PAGED)
+        printf("90 00 and page %u\n", code);
     else if (code == DONE)
         puts("done");
     else if (code == TRIES)
@@ -319,25 +327,40 @@ static size_t place_in(const uint8_t *values, size_t count, uint8_t value)
     return i;
 }
 
+/* Whether the reader page, and whether it was chosen, are those of before, or, where the message is a 01 that succeeds, its own. */
+static int page_is_right(int chooses)
+{
+    if (chooses)
+        return record[3] == 1u << message[15] && record[16] == 1;
+    return record[3] == kept_record[3] && record[16] == kept_record[16];
+}
+
 /* What a message of so many bytes came to. */
 static unsigned outcome_of(size_t length, int32_t result, size_t *subject)
 {
     size_t type = place_in(types, sizeof types, message[0]), command = place_in(commands, sizeof commands, message[11]);
-    unsigned word;
+    unsigned word = 0;
     *subject = down;
     if (result < 0)
         return REFUSED | (unsigned)-result;
-    /* On a record with a wrong count there is no answer, nor from a card without a code that is said to be open. */
+    /* On a record with a wrong count or byte 16 there is no answer, nor from a card without a code that is said to be open. */
     if (result < 10 || result > CARD_READER_LONGEST || down != MESSAGE || (kept_record[4] && kinds[kind_in].family < CODE_28))
         return NO_RESULT;
     *subject = type < sizeof types ? T61 + type : OTHER;
+    if (message[0] == 0x6f && !(answer[7] & 0x40)) {
+        if (length >= 15 && message[10] == 0xff && command < sizeof commands)
+            *subject = A4 + command;
+        word = (unsigned)answer[result - 2] << 8 | answer[result - 1];
+    }
+    /* An A4 sets the page of an I2C card where none was chosen. */
+    if (*subject == A4 && word == 0x9000 && (IS_I2C >> kinds[kind_in].family & 1) && !kept_record[16] && !record[16])
+        return PAGED | record[3];
+    if (!page_is_right(*subject == C01 && word == 0x9000))
+        return NO_RESULT;
     if (answer[7] & 0x40)
         return FAILED | answer[8];
     if (message[0] != 0x6f)
         return DONE;
-    if (length >= 15 && message[10] == 0xff && command < sizeof commands)
-        *subject = A4 + command;
-    word = (unsigned)answer[result - 2] << 8 | answer[result - 1];
     /* An open card refuses nothing by 69 82. */
     if (word == 0x6982 && kept_record[4])
         return NO_RESULT;
@@ -509,6 +532,22 @@ static void send_miscounted(void)
     down = MESSAGE;
 }
 
+/* Byte 16 as no record has it: neither 0 nor 1, or with no card 1. */
+static void send_wrongly_chosen(void)
+{
+    static const uint8_t values[] = { 1, 2, 3, 128, 255 };
+    size_t i;
+    uint8_t was = kept_record[16];
+    begin(0x65, 0);
+    down = WRONG_CHOSEN;
+    for (i = kind_in != NONE; i < sizeof values; i++) {
+        kept_record[16] = values[i];
+        send(10);
+    }
+    kept_record[16] = was;
+    down = MESSAGE;
+}
+
 /* What is turned down: the length of each slice, an image that is no card, a record with another byte in each place. */
 static void send_refused(void)
 {
@@ -542,7 +581,7 @@ static void send_refused(void)
 }
 
 /* All messages on one state. */
-static void send_all(int active, int selected, uint8_t page, int open, const uint8_t *set)
+static void send_all(int active, int selected, uint8_t page, int chosen, int open, const uint8_t *set)
 {
     memset(kept_record, 0, sizeof kept_record);
     kept_record[0] = kinds[kind_in].number;
@@ -552,28 +591,31 @@ static void send_all(int active, int selected, uint8_t page, int open, const uin
     kept_record[4] = (uint8_t)open;
     memcpy(kept_record + 5, set, 8);
     put_counts(kept_record + 13, kept_image, &kinds[kind_in]);
+    kept_record[16] = (uint8_t)chosen;
     memcpy(image, kept_image, kinds[kind_in].image);
     send_types();
     send_sets();
     send_refused();
     send_miscounted();
+    send_wrongly_chosen();
     send_commands();
     send_values();
 }
 
-/* The states of the slot with the card that is kept: inactive, no type, selected with each page, open. Of a card without a
- * code that is no state, and every message is turned down. */
+/* The states of the slot with the card that is kept: inactive, no type, selected with each page, chosen or not, open. Of a card
+ * without a code that is no state, and every message is turned down. */
 static void on_each_state(int open_too)
 {
     unsigned page;
-    send_all(0, 0, 8, 0, t0_set);
+    send_all(0, 0, 8, 0, 0, t0_set);
     if (kind_in == NONE)
         return;
-    send_all(1, 0, 8, 0, t1_set);
+    send_all(1, 0, 8, 0, 0, t1_set);
     for (page = 8; page <= 128; page *= kinds[kind_in].family < BITS_18 ? 2 : 16)
-        send_all(1, 1, (uint8_t)page, 0, page == 128 ? t1_set : t0_set);
+        send_all(1, 1, (uint8_t)page, 1, 0, page == 128 ? t1_set : t0_set);
+    send_all(1, 1, 64, 0, 0, t0_set);
     if (open_too)
-        send_all(1, 1, 8, 1, t0_set);
+        send_all(1, 1, 8, 0, 1, t0_set);
 }
 
 static void every_message(void)
@@ -596,9 +638,10 @@ static void every_message(void)
 
 /* ---- insertions and removals */
 
+/* An insertion or a removal that is done leaves page 8, and none chosen. */
 static unsigned outcome_of_card(int32_t result)
 {
-    return result < 0 ? REFUSED | (unsigned)-result : result == 0 ? DONE : NO_RESULT;
+    return result < 0 ? REFUSED | (unsigned)-result : result == 0 && record[3] == 8 && record[16] == 0 ? DONE : NO_RESULT;
 }
 
 static void insert(uint8_t in, uint8_t number, size_t row, size_t record_length, size_t image_length)

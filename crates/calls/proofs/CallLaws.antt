@@ -50,7 +50,7 @@ raw-kept r {o} {reply} g e h = record {
 
 -- ---- a message leaves the kind and the rest as they were read
 pub message-leaves : (r : List ℕ) (s t : Slot) (image m : List ℕ) → 10 ≤ length m → slotOf r ≡ Reading.Found s → t ≡ served s image m .slot
-    → (byte r 0 ≡ kindOf (t .holds)) × (drop 16 r ≡ replicate 16 0)
+    → (byte r 0 ≡ kindOf (t .holds)) × (drop 17 r ≡ replicate 15 0)
 message-leaves r s t image m w e h =
     let p : Front r s = found-front r s e in
     let q : t .holds ≡ s .holds = ap (λ (x : Slot). x .holds) h ∙ served-holds s image m w in

@@ -31,9 +31,9 @@ fn keep(reply: Reply, raw: &mut [u8]) -> Verdict
     Verdict::Answered(len)
 }
 
-// The same after a message, which changes bytes 1 to 15 alone: the kind is the slot's already, and the rest 00h.
+// The same after a message, which changes bytes 1 to 16 alone: the kind is the slot's already, and the rest 00h.
 fn keep_state(reply: Reply, raw: &mut [u8]) -> Verdict
-    requires { ⌜ (byte (now raw) 0 ≡ kindOf (reply .slot .holds)) × (drop 16 (now raw) ≡ replicate 16 0) ⌝ }
+    requires { ⌜ (byte (now raw) 0 ≡ kindOf (reply .slot .holds)) × (drop 17 (now raw) ≡ replicate 15 0) ⌝ }
     ensures { λ r. ⌜ (r ≡ reply .verdict) × (now (raw .exit) ≡ keeping (number (reply .verdict)) (reply .slot) (now (raw .entry))) ⌝ }
 {
     let verdict = reply.verdict;

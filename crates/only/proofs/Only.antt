@@ -113,9 +113,9 @@ sets-is-taken-only set r r′ = value-only
 pub slot-empty-only : (r r′ : Slot) → r ≡ removed → r′ ≡ removed → r ≡ r′
 slot-empty-only r r′ = value-only
 
-pub slot-of-only : (h : Holds) (on : Bool) (type page : ℕ) (o : Bool) (set left n : ℕ) (r r′ : Slot) → r ≡ slotted h on type page o set left n
-    → r′ ≡ slotted h on type page o set left n → r ≡ r′
-slot-of-only h on type page o set left n r r′ = value-only
+pub slot-of-only : (h : Holds) (on : Bool) (type page : ℕ) (o : Bool) (set left n : ℕ) (c : Bool) (r r′ : Slot) → r ≡ slotted h on type page o set left n c
+    → r′ ≡ slotted h on type page o set left n c → r ≡ r′
+slot-of-only h on type page o set left n c r r′ = value-only
 
 pub slot-insert-only : (chip : Chip) (left n : ℕ) (r r′ : Slot) → r ≡ inserted chip left n → r′ ≡ inserted chip left n → r ≡ r′
 slot-insert-only chip left n r r′ = value-only

@@ -18,7 +18,9 @@ pub mod Guarded
 pub mod Stored
 pub mod Seats
 pub mod Paged
+pub mod Chosen
 pub mod Addresses
 pub mod Wrote
 pub mod Counted
+pub mod PageVisits
 pub mod Screens

@@ -68,9 +68,9 @@ module _ (chip : Chip) (some : 0 < facts chip .page) where
   none-protected =
       either (λ (n : ℕ). n ≡ 0) _ (λ _. let few = count-within (f .bits) (f .covered) image in omega (arith, few, pages-bare chip some)) (λ _. refl)
 
-  module _ (page : ℕ) (sized : pageSize page ≡ true) where
+  module _ (chosen : Bool) (page : ℕ) (sized : pageSize page ≡ true) where
     abbrev slot : Slot
-    slot = seated chip page
+    slot = seated chip chosen page
 
     seat-sound : Sound slot image
     unfolding selectedSlot

@@ -1,6 +1,7 @@
 -- Visits from the insertion on, of all four kinds with protection bits and of I2C cards, whose D0 meets what the theorems of `Stored` and `Paged` ask:
 -- the rules are computed.
 use mathlib.Core.Path.{_≡_, refl}
+use mathlib.Core.Bool.{true}
 use mathlib.Core.List.{List, [], _∷_, _++_}
 use Prim.Native.Nat.{ℕ, _+_}
 use native.Mathlib.Omega.{arith}
@@ -109,17 +110,17 @@ atTop = record { message = command 0xD1 0x00 0x00 0x02 (0x05 ∷ 0x06 ∷ []); r
 
 abbrev Wrote1024 : Sent → ℕ → Type 0
 Wrote1024 m at =
-    sending (seated I2c1024 128) (seatImage I2c1024) m .image
+    sending (seated I2c1024 true 128) (seatImage I2c1024) m .image
     ≡ take at (seatImage I2c1024) ++ sentBy m ++ drop (at + length (sentBy m)) (seatImage I2c1024)
 
 pub wroteOver : Wrote1024 overBorder 0x0FFFE
 unfolding rules transfer selectedSlot
 wroteOver =
-    message-range I2c1024 (seated I2c1024 128) (seatImage I2c1024) overBorder 0x0FFFE refl
-    (record { isHeard = seat-heard I2c1024 (omega arith) 128 refl (overBorder .message) refl refl refl; asked = refl; ends = refl }) (omega arith) (omega arith)
+    message-range I2c1024 (seated I2c1024 true 128) (seatImage I2c1024) overBorder 0x0FFFE refl
+    (record { isHeard = seat-heard I2c1024 (omega arith) true 128 refl (overBorder .message) refl refl refl; asked = refl; ends = refl }) (omega arith) (omega arith)
 
 pub wroteTop : Wrote1024 atTop 0x10000
 unfolding rules transfer selectedSlot
 wroteTop =
-    message-range I2c1024 (seated I2c1024 128) (seatImage I2c1024) atTop 0x10000 refl
-    (record { isHeard = seat-heard I2c1024 (omega arith) 128 refl (atTop .message) refl refl refl; asked = refl; ends = refl }) (omega arith) (omega arith)
+    message-range I2c1024 (seated I2c1024 true 128) (seatImage I2c1024) atTop 0x10000 refl
+    (record { isHeard = seat-heard I2c1024 (omega arith) true 128 refl (atTop .message) refl refl refl; asked = refl; ends = refl }) (omega arith) (omega arith)

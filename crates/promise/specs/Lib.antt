@@ -5,6 +5,8 @@ pub mod Parameters
 pub mod Protected
 pub mod Guarded
 pub mod Stored
+pub mod Chosen
 pub mod Counted
 pub mod Screens
 pub mod Seats
+pub mod PageVisits

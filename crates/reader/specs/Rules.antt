@@ -11,6 +11,7 @@ use Rattle.pages.specs.Pages.{cutStart, lands, pageWrite}
 use Rattle.stores.specs.Stores.{storing, endsEqual}
 use Rattle.reads.specs.Reads.{visible, bytesRead, counterRead}
 use Rattle.sets.specs.Sets.{setWith, defaultSet, lengthOf, fitsLength, longWait, faultAt, setOf, takes}
+use Rattle.slot.specs.Slots.{pageFor, pageAfter}
 use Rattle.card.specs.Images.{isCard}
 use Rattle.sound.specs.Sound.{pageSize, emptySound, idleSound, typeSound, openSound, setSound, countsSound, sound}
 use Rattle.steps.specs.Steps.{insOf, rangeTest, reaching, steps, order}
@@ -23,7 +24,7 @@ use Rattle.reader.specs.Runs.{run}
 unfoldable pub rules : ℕ
 unfolding onesIn ones trailingZeros _⇒_⁏_ _and_ _or_ _means_ blank same fourBytes fourAt numberIn byteOf lowFirst over series chipAmong chipOf spent cleared zeroBits zerosOf protectedCount protectionBit isProtected
     protecting protectEqual packed packedBytes setWith defaultSet lengthOf fitsLength longWait
-    faultAt setOf takes isCard pageSize emptySound idleSound typeSound openSound setSound countsSound sound visible bytesRead
+    faultAt setOf takes pageFor pageAfter isCard pageSize emptySound idleSound typeSound openSound setSound countsSound sound visible bytesRead
     counterRead cutStart lands pageWrite storing endsEqual spending judging presenting accepts insOf rangeTest reaching steps order written writtenWord saidBy imageBy slotBy performed commanded reset
     requestOf faultOf cardState bStatus byte9 header answer deed replied reply served exchange insertedAs insertion run
 rules = 0

@@ -51,6 +51,11 @@ eight-zero l k h e = and-holds (eq-eqb (eightAt l k) 0 e) refl ∙ sym (blank-ei
 pub eight-more : (l : List ℕ) (k : ℕ) → k + 8 ≤ length l → (eightAt l k ≡ 0 → ⊥) → false ≡ blank (drop k l)
 eight-more l k h e = and-fails (blank (drop (k + 8) l)) (ne-eqb (eightAt l k) 0 e) ∙ sym (blank-eight l k h)
 
+-- the last of eight bytes is 00h where their number is 0
+pub eight-last : (l : List ℕ) → eightAt l 17 ≡ 0 → byte l 24 ≡ 0
+unfolding eightAt fourAt
+eight-last l e = omega (arith, e)
+
 -- the last eight of 32 bytes
 pub blank-last : (l : List ℕ) → length l ≡ 32 → eightAt l 24 is 0 ≡ blank (drop 24 l)
 unfolding blank
@@ -82,7 +87,8 @@ pub record Made (h : Holds) (r : List ℕ) (s : Slot) : Type 0 where
   pub long : length r ≡ 32
   pub on : byte r 1 ≤ 1
   pub unlocked : byte r 4 ≤ 1
-  pub rest : blank (drop 16 r) ≡ true
+  pub named : byte r 16 ≤ 1
+  pub rest : blank (drop 17 r) ≡ true
   pub said : slotFrom h r ≡ s
 
 pub found-with : (h : Holds) (r : List ℕ) (s : Slot) → slotWith h r ≡ Reading.Found s → Made h r s
@@ -92,48 +98,50 @@ found-with h r s =
     either P (length r isnt 32) (λ _. broken-found) (λ a.
     either P (ltb 1 (byte r 1)) (λ _. broken-found) (λ b.
     either P (ltb 1 (byte r 4)) (λ _. broken-found) (λ c.
-    either P (not (blank (drop 16 r))) (λ _. broken-found) (λ d e.
+    either P (ltb 1 (byte r 16)) (λ _. broken-found) (λ n.
+    either P (not (blank (drop 17 r))) (λ _. broken-found) (λ d e.
     record {
       long = eqb-true _ _ (not-false _ a);
       on = ltb-false 1 (byte r 1) b;
       unlocked = ltb-false 1 (byte r 4) c;
+      named = ltb-false 1 (byte r 16) n;
       rest = not-false _ d;
       said = ap slotIn e;
-    }))))
+    })))))
 
 -- ---- what is written
--- kind, bytes 1 to 15 and the rest, stored one behind the other, are the record
-pub record-written : (r : List ℕ) (s : Slot) (k : ℕ) → length r ≡ 32 → k ≡ kindOf (s .holds) → sets (sets (set r 0 k) 1 (stateOf s)) 16 (replicate 16 0) ≡ rawOf s
+-- kind, bytes 1 to 16 and the rest, stored one behind the other, are the record
+pub record-written : (r : List ℕ) (s : Slot) (k : ℕ) → length r ≡ 32 → k ≡ kindOf (s .holds) → sets (sets (set r 0 k) 1 (stateOf s)) 17 (replicate 15 0) ≡ rawOf s
 unfolding rawOf lowFirst
 record-written r s k e h =
-    let w : ℕ → List ℕ = λ x. x ∷ stateOf s ++ replicate 16 0 in
+    let w : ℕ → List ℕ = λ x. x ∷ stateOf s ++ replicate 15 0 in
     sets-eq (w k) r 0 (omega arith)
     ∙ ap (λ (t : List ℕ). w k ++ t) (drop-of-length-le r {i = 32} (omega arith))
     ∙ append-nil (w k)
     ∙ ap w h
 
--- 16 bytes of rest make 32
-pub rest-long : (r : List ℕ) → drop 16 r ≡ replicate 16 0 → length r ≡ 32
+-- 15 bytes of rest make 32
+pub rest-long : (r : List ℕ) → drop 17 r ≡ replicate 15 0 → length r ≡ 32
 rest-long r e =
-    let p : length (drop 16 r) ≡ 16 = ap length e in
-    omega (arith, p, length-drop 16 r)
+    let p : length (drop 17 r) ≡ 15 = ap length e in
+    omega (arith, p, length-drop 17 r)
 
--- bytes 1 to 15 make it the record of a slot, where the kind is the slot's already and the rest 00h
-pub state-written : (r : List ℕ) (s : Slot) → byte r 0 ≡ kindOf (s .holds) → drop 16 r ≡ replicate 16 0 → sets r 1 (stateOf s) ≡ rawOf s
+-- bytes 1 to 16 make it the record of a slot, where the kind is the slot's already and the rest 00h
+pub state-written : (r : List ℕ) (s : Slot) → byte r 0 ≡ kindOf (s .holds) → drop 17 r ≡ replicate 15 0 → sets r 1 (stateOf s) ≡ rawOf s
 unfolding rawOf lowFirst
 state-written [] s k e = absurd (omega (arith, rest-long [] e))
 state-written (a ∷ r) s k e =
     sets-eq (stateOf s) (a ∷ r) 1 (omega (arith, rest-long (a ∷ r) e))
     ∙ ap (λ (t : List ℕ). a ∷ stateOf s ++ t) e
-    ∙ ap (λ (x : ℕ). x ∷ stateOf s ++ replicate 16 0) k
+    ∙ ap (λ (x : ℕ). x ∷ stateOf s ++ replicate 15 0) k
 
 -- a loop that makes the rest 00h: one turn
-pub rest-more : (r : List ℕ) (i : ℕ) → 16 ≤ i → set (sets r 16 (replicate (i - 16) 0)) i 0 ≡ sets r 16 (replicate (i + 1 - 16) 0)
+pub rest-more : (r : List ℕ) (i : ℕ) → 17 ≤ i → set (sets r 17 (replicate (i - 17) 0)) i 0 ≡ sets r 17 (replicate (i + 1 - 17) 0)
 rest-more r i h =
-    let z : List ℕ = replicate (i - 16) 0 in
-    let p : 16 + length z ≡ i = omega (arith, length-replicate {A = ℕ} (i - 16) 0) in
-    let q : i - 16 + 1 ≡ i + 1 - 16 = omega arith in
-    ap (λ (k : ℕ). set (sets r 16 z) k 0) (sym p)
-    ∙ sym (sets-snoc r 16 z 0)
-    ∙ ap (sets r 16) (replicate-append-replicate {A = ℕ} (i - 16) 1 0)
-    ∙ ap (λ (n : ℕ). sets r 16 (replicate n 0)) q
+    let z : List ℕ = replicate (i - 17) 0 in
+    let p : 17 + length z ≡ i = omega (arith, length-replicate {A = ℕ} (i - 17) 0) in
+    let q : i - 17 + 1 ≡ i + 1 - 17 = omega arith in
+    ap (λ (k : ℕ). set (sets r 17 z) k 0) (sym p)
+    ∙ sym (sets-snoc r 17 z 0)
+    ∙ ap (sets r 17) (replicate-append-replicate {A = ℕ} (i - 17) 1 0)
+    ∙ ap (λ (n : ℕ). sets r 17 (replicate n 0)) q

@@ -1,5 +1,5 @@
 // The raw slot record, 32 bytes: kind (0 none), active (0 or 1), selected type (0 none), reader page, open (0 or 1), protocol number and seven
-// bytes of the parameters, tries left, number of protected bytes in two, low first, the rest 00h.
+// bytes of the parameters, tries left, number of protected bytes in two, low first, whether the page was chosen (0 or 1), the rest 00h.
 // Any bytes at all may come as a record. No offered function has a `requires`: each has its one result for every input.
 // The rules are written in specs/Raw.antt.
 
@@ -46,9 +46,9 @@ fn flag_of(flag: bool) -> u8
     if flag { 1 } else { 0 }
 }
 
-// Writes what of a slot a message may change: bytes 1 to 15.
+// Writes what of a slot a message may change: bytes 1 to 16.
 pub fn write_state(slot: Slot, raw: &mut [u8])
-    requires { ⌜ 16 ≤ length (now raw) ⌝ }
+    requires { ⌜ 17 ≤ length (now raw) ⌝ }
     ensures { λ _. ⌜ now (raw .exit) ≡ sets (now (raw .entry)) 1 (stateOf slot) ⌝ }
 {
     raw[1] = flag_of(slot.active);
@@ -59,14 +59,15 @@ pub fn write_state(slot: Slot, raw: &mut [u8])
     raw[13] = slot.tries;
     raw[14] = (slot.protected % 256) as u8;
     raw[15] = (slot.protected / 256) as u8;
+    raw[16] = flag_of(slot.chosen);
 }
 
-// Makes the rest, byte 16 on, 00h.
+// Makes the rest, byte 17 on, 00h.
 fn clear_rest(raw: &mut [u8])
     requires { ⌜ length (now raw) ≡ 32 ⌝ }
-    ensures { λ _. ⌜ now (raw .exit) ≡ sets (now (raw .entry)) 16 (replicate 16 0) ⌝ }
+    ensures { λ _. ⌜ now (raw .exit) ≡ sets (now (raw .entry)) 17 (replicate 15 0) ⌝ }
 {
-    let mut i = 16;
+    let mut i = 17;
     while i < raw.len() {
         raw[i] = 0;
         i += 1;
@@ -88,12 +89,12 @@ pub fn write_record(slot: Slot, raw: &mut [u8])
 
 // ---- reading
 
-// Whether the rest, byte 16 on, is 00h: eight bytes at a time.
+// Whether the rest, byte 17 on, is 00h: eight bytes at a time, byte 24 twice.
 fn is_blank(raw: &[u8]) -> bool
     requires { ⌜ length (now raw) ≡ 32 ⌝ }
-    ensures { λ r. ⌜ r ≡ blank (drop 16 (now (raw .entry))) ⌝ }
+    ensures { λ r. ⌜ r ≡ blank (drop 17 (now (raw .entry))) ⌝ }
 {
-    if eight_at(raw, 16) != 0 {
+    if eight_at(raw, 17) != 0 {
         return false;
     }
     eight_at(raw, 24) == 0
@@ -114,6 +115,10 @@ fn read_with(holds: Holds, raw: &[u8]) -> Reading
     if 1 < open {
         return Reading::Broken(holds);
     }
+    let chosen = raw[16];
+    if 1 < chosen {
+        return Reading::Broken(holds);
+    }
     if !is_blank(raw) {
         return Reading::Broken(holds);
     }
@@ -126,6 +131,7 @@ fn read_with(holds: Holds, raw: &[u8]) -> Reading
         eight_at(raw, 5),
         raw[13],
         raw[14] as u16 + 256 * raw[15] as u16,
+        chosen == 1,
     ))
 }
 

@@ -1,6 +1,7 @@
 -- The slot record: what it holds, and its changes. A record is written out here and nowhere else.
 use Prim.Native.Nat.{ℕ}
 use mathlib.Core.Bool.{Bool, true, false}
+use Rattle.words.specs.Choice.{_⇒_⁏_, _is_}
 use Rattle.chips.specs.declared.Chip.{Chip}
 use Rattle.chips.specs.Kinds.{facts}
 use Rattle.sets.specs.Sets.{defaultSet}
@@ -20,37 +21,41 @@ ownType (Card chip) = facts chip .selects
 
 -- ---- the changes
 -- a record of its fields, and a record with one field changed; every other change is made of these
-abbrev pub slotted : Holds → Bool → ℕ → ℕ → Bool → ℕ → ℕ → ℕ → Slot
-slotted h on t p o set left n = record { holds = h; active = on; selected = t; page = p; «open» = o; set = set; tries = left; protected = n }
+abbrev pub slotted : Holds → Bool → ℕ → ℕ → Bool → ℕ → ℕ → ℕ → Bool → Slot
+slotted h on t p o set left n c = record { holds = h; active = on; selected = t; page = p; «open» = o; set = set; tries = left; protected = n; chosen = c }
 
 abbrev pub activeAs : Bool → Slot → Slot
-activeAs on s = slotted (s .holds) on (s .selected) (s .page) (s .«open») (s .set) (s .tries) (s .protected)
+activeAs on s = slotted (s .holds) on (s .selected) (s .page) (s .«open») (s .set) (s .tries) (s .protected) (s .chosen)
 
 abbrev pub typeAs : ℕ → Slot → Slot
-typeAs t s = slotted (s .holds) (s .active) t (s .page) (s .«open») (s .set) (s .tries) (s .protected)
+typeAs t s = slotted (s .holds) (s .active) t (s .page) (s .«open») (s .set) (s .tries) (s .protected) (s .chosen)
 
 abbrev pub pageAs : ℕ → Slot → Slot
-pageAs p s = slotted (s .holds) (s .active) (s .selected) p (s .«open») (s .set) (s .tries) (s .protected)
+pageAs p s = slotted (s .holds) (s .active) (s .selected) p (s .«open») (s .set) (s .tries) (s .protected) (s .chosen)
 
 abbrev pub openAs : Bool → Slot → Slot
-openAs o s = slotted (s .holds) (s .active) (s .selected) (s .page) o (s .set) (s .tries) (s .protected)
+openAs o s = slotted (s .holds) (s .active) (s .selected) (s .page) o (s .set) (s .tries) (s .protected) (s .chosen)
 
 abbrev pub setAs : ℕ → Slot → Slot
-setAs set s = slotted (s .holds) (s .active) (s .selected) (s .page) (s .«open») set (s .tries) (s .protected)
+setAs set s = slotted (s .holds) (s .active) (s .selected) (s .page) (s .«open») set (s .tries) (s .protected) (s .chosen)
 
 abbrev pub triesAs : ℕ → Slot → Slot
-triesAs left s = slotted (s .holds) (s .active) (s .selected) (s .page) (s .«open») (s .set) left (s .protected)
+triesAs left s = slotted (s .holds) (s .active) (s .selected) (s .page) (s .«open») (s .set) left (s .protected) (s .chosen)
 
 abbrev pub protectedAs : ℕ → Slot → Slot
-protectedAs n s = slotted (s .holds) (s .active) (s .selected) (s .page) (s .«open») (s .set) (s .tries) n
+protectedAs n s = slotted (s .holds) (s .active) (s .selected) (s .page) (s .«open») (s .set) (s .tries) n (s .chosen)
 
--- "Insertion gives: inactive, no type, page 8, closed"; the default parameters return; tries left and number of protected bytes are those that come
+abbrev pub chosenAs : Bool → Slot → Slot
+chosenAs c s = slotted (s .holds) (s .active) (s .selected) (s .page) (s .«open») (s .set) (s .tries) (s .protected) c
+
+-- "Insertion gives: inactive, no type, page 8, closed"; the default parameters return; tries left and number of protected bytes are those that come;
+-- command 01 has not succeeded since
 abbrev pub inserted : Chip → ℕ → ℕ → Slot
-inserted chip left n = slotted (Card chip) false 0 8 false defaultSet left n
+inserted chip left n = slotted (Card chip) false 0 8 false defaultSet left n false
 
 -- "Removal always gives the empty sound slot"; the default parameters return; "For .. an empty slot both are 0"
 abbrev pub removed : Slot
-removed = slotted Empty false 0 8 false defaultSet 0 0
+removed = slotted Empty false 0 8 false defaultSet 0 0 false
 
 -- "Power on: active, no type, closed"; "Power off: inactive, no type, closed. Page size survives both"
 abbrev pub powered : Bool → Slot → Slot
@@ -60,13 +65,21 @@ powered on s = activeAs on (typeAs 0 (openAs false s))
 abbrev pub defaulted : Slot → Slot
 defaulted s = setAs defaultSet s
 
+-- 02: "a successful A4 with type 02h sets the reader page to 32, and with 01h to 8"; with another type the page p stays
+unfoldable pub pageFor : ℕ → ℕ → ℕ
+pageFor t p = t is 0x02 ⇒ 32 ⁏ t is 0x01 ⇒ 8 ⁏ p
+
+-- "unless command 01 has succeeded since insertion; a flag in the slot record says so"
+unfoldable pub pageAfter : ℕ → Slot → ℕ
+pageAfter t s = s .chosen ⇒ s .page ⁏ pageFor t (s .page)
+
 -- "A4: selects the type, closes"
 abbrev pub selecting : ℕ → Slot → Slot
-selecting t s = typeAs t (openAs false s)
+selecting t s = typeAs t (openAs false (pageAs (pageAfter t s) s))
 
--- "01: page 8, 16, 32, 64, 128"
+-- "01: page 8, 16, 32, 64, 128"; it "has succeeded since insertion"
 abbrev pub paged : ℕ → Slot → Slot
-paged p s = pageAs p s
+paged p s = chosenAs true (pageAs p s)
 
 -- "Equal: counter full, open. Not: closed"
 abbrev pub opened : Slot → Slot

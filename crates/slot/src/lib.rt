@@ -3,7 +3,7 @@
 
 use chips::Chip;
 ghost use mathlib.Core.Path.{_≡_};
-ghost use Rattle.slot.specs.Slots.{occupied, ownType, slotted, inserted, removed, powered, selecting, paged, openAs, opened, closed, setAs, defaulted, triesAs, protectedAs};
+ghost use Rattle.slot.specs.Slots.{occupied, ownType, pageAfter, slotted, inserted, removed, powered, selecting, paged, openAs, opened, closed, setAs, defaulted, triesAs, protectedAs};
 
 // The slot holds nothing or a card of one kind; its image stays beside it.
 pub enum Holds {
@@ -11,7 +11,10 @@ pub enum Holds {
     Card(Chip),
 }
 
+// The order of the fields is the cheapest that was measured.
 pub struct Slot {
+    // The parameters: a number that is read by crate sets.
+    pub set: usize,
     pub holds: Holds,
     pub active: bool,
     pub open: bool,
@@ -19,10 +22,10 @@ pub struct Slot {
     pub selected: u8,
     // The reader page.
     pub page: u8,
+    // Whether command 01 has succeeded since insertion: the host chose the page.
+    pub chosen: bool,
     // The number of protected bytes, as the image has it.
     pub protected: u16,
-    // The parameters: a number that is read by crate sets.
-    pub set: usize,
     // Tries left, as the image has them.
     pub tries: u8,
 }
@@ -31,7 +34,8 @@ pub struct Slot {
 pub fn empty() -> Slot
     ensures { λ r. ⌜ r ≡ removed ⌝ }
 {
-    Slot::of(Holds::Empty, false, 0, 8, false, sets::default_set(), 0, 0)
+    let set = sets::default_set();
+    Slot::of(Holds::Empty, false, 0, 8, false, set, 0, 0, false)
 }
 
 impl Slot {
@@ -45,8 +49,9 @@ impl Slot {
         set: usize,
         tries: u8,
         protected: u16,
+        chosen: bool,
     ) -> Slot
-        ensures { λ r. ⌜ r ≡ slotted holds active selected page «open» set tries protected ⌝ }
+        ensures { λ r. ⌜ r ≡ slotted holds active selected page «open» set tries protected chosen ⌝ }
     {
         Slot {
             holds,
@@ -57,18 +62,19 @@ impl Slot {
             set,
             tries,
             protected,
+            chosen,
         }
     }
 
     // ---- the changes: each method hands back the next record
 
-    // Inactive, no type, page 8, closed, the default parameters, and the counts of the image that is put in.
+    // Inactive, no type, page 8 that nobody chose, closed, the default parameters, and the counts of the image that is put in.
     pub fn insert(self, chip: Chip, tries: u8, protected: u16) -> Slot
         ensures { λ r. ⌜ r ≡ inserted chip tries protected ⌝ }
     {
         let holds = Holds::Card(chip);
         let set = sets::default_set();
-        Slot::of(holds, false, 0, 8, false, set, tries, protected)
+        Slot::of(holds, false, 0, 8, false, set, tries, protected, false)
     }
 
     // The empty sound slot.
@@ -78,7 +84,7 @@ impl Slot {
         empty()
     }
 
-    // Active or inactive, no type, closed. The page and the parameters survive.
+    // Active or inactive, no type, closed. The page, whether it was chosen, and the parameters survive.
     pub fn power(mut self, on: bool) -> Slot
         ensures { λ r. ⌜ r ≡ powered on self ⌝ }
     {
@@ -88,20 +94,39 @@ impl Slot {
         self
     }
 
-    // The type is selected, and the card closed.
+    // The reader page after A4 with a type: the one that was chosen, else 32 for 02h, 8 for 01h, and with another type the one there is.
+    fn page_after(self, own: u8) -> u8
+        ensures { λ r. ⌜ r ≡ pageAfter own self ⌝ }
+    {
+        if self.chosen {
+            return self.page;
+        }
+        if own == 0x02 {
+            return 32;
+        }
+        if own == 0x01 {
+            return 8;
+        }
+        self.page
+    }
+
+    // The type is selected, with its page, and the card closed.
     pub fn select(mut self, own: u8) -> Slot
         ensures { λ r. ⌜ r ≡ selecting own self ⌝ }
     {
+        let next = self.page_after(own);
+        self.page = next;
         self.selected = own;
         self.open = false;
         self
     }
 
-    // The reader page.
+    // The reader page is the one chosen.
     pub fn set_page(mut self, page: u8) -> Slot
         ensures { λ r. ⌜ r ≡ paged page self ⌝ }
     {
         self.page = page;
+        self.chosen = true;
         self
     }
 

@@ -6,21 +6,21 @@ use mathlib.Core.Logic.{_⊎_, inl, inr}
 use Prim.Native.Nat.{ℕ}
 use borrow.Author.Tests.{eqb-true, eq-eqb, not-true}
 use Rattle.words.specs.Choice.{_or_, _is_}
-use Rattle.words.proofs.Choices.{and-true, or-true, means-true, both, or-left, or-right, meaning}
+use Rattle.words.proofs.Choices.{either, and-true, or-true, means-true, both, or-left, or-right, meaning}
 use Rattle.chips.specs.declared.Chip.{Chip}
 use Rattle.sets.specs.Sets.{defaultSet, takes}
 use Rattle.sets.proofs.SetLaws.{default-taken}
 use Rattle.slot.specs.declared.Holds.{Holds}
 use Rattle.slot.specs.declared.Holds.the-variants.{Empty, Card}
 use Rattle.slot.specs.declared.Slot.{Slot}
-use Rattle.slot.specs.Slots.{occupied, ownType, removed, powered, selecting, paged, opened, closed, setAs, defaulted, triesAs, protectedAs}
+use Rattle.slot.specs.Slots.{occupied, ownType, pageFor, pageAfter, removed, powered, selecting, paged, opened, closed, setAs, defaulted, triesAs, protectedAs}
 use Rattle.counts.specs.Counts.{triesOf, protectedOf, Counted, putIn}
 use Rattle.sound.specs.Sound.{fullCode, pageSize, emptySound, idleSound, typeSound, openSound, setSound, countsSound, sound}
 
 -- "It is sound when", as facts
 pub record Sound (s : Slot) (image : List ℕ) : Type 0 where
   pub sized : pageSize (s .page) ≡ true
-  pub empty : occupied (s .holds) ≡ false → (s .active ≡ false) × (s .page ≡ 8)
+  pub empty : occupied (s .holds) ≡ false → (s .active ≡ false) × (s .page ≡ 8) × (s .chosen ≡ false)
   pub idle : s .active ≡ false → (s .selected ≡ 0) × (s .«open» ≡ false)
   pub own : (s .selected ≡ 0) ⊎ (s .selected ≡ ownType (s .holds))
   pub sure : s .«open» ≡ true → (fullCode (s .holds) image ≡ true) × (s .selected ≡ ownType (s .holds))
@@ -32,10 +32,23 @@ pub default-sound : (h : Holds) → setSound h defaultSet ≡ true
 unfolding setSound
 default-sound h = both default-taken (meaning _ (λ _. eq-eqb defaultSet defaultSet refl))
 
--- page 8 is one
+-- pages 8 and 32 are two of them
 sized8 : pageSize 8 ≡ true
 unfolding pageSize _or_
 sized8 = refl
+
+sized32 : pageSize 32 ≡ true
+unfolding pageSize _or_
+sized32 = refl
+
+-- the page after A4 is one where the page before is
+pub for-sized : (t p : ℕ) → pageSize p ≡ true → pageSize (pageFor t p) ≡ true
+unfolding pageFor
+for-sized t p e = let P : ℕ → Type 0 = λ n. pageSize n ≡ true in either P (t is 2) (λ _. sized32) (λ _. either P (t is 1) (λ _. sized8) (λ _. e))
+
+after-sized : (t : ℕ) (s : Slot) → pageSize (s .page) ≡ true → pageSize (pageAfter t s) ≡ true
+unfolding pageAfter
+after-sized t s e = either (λ (n : ℕ). pageSize n ≡ true) (s .chosen) (λ _. e) (λ _. for-sized t (s .page) e)
 
 module _ (s : Slot) (image : List ℕ) where
   own-parts : (s .selected is 0 ≡ true) ⊎ (s .selected is ownType (s .holds) ≡ true) → (s .selected ≡ 0) ⊎ (s .selected ≡ ownType (s .holds))
@@ -58,7 +71,7 @@ module _ (s : Slot) (image : List ℕ) where
       let t7 = and-true _ _ (t6 .1) in
       record {
         sized = t1 .0;
-        empty = λ h. let u = and-true _ _ (means-true _ _ (t2 .0) (ap not h)) in (not-true _ (u .0), eqb-true _ _ (u .1));
+        empty = λ h. let u = and-true _ _ (means-true _ _ (t2 .0) (ap not h)) in let v = and-true _ _ (u .1) in (not-true _ (u .0), eqb-true _ _ (v .0), not-true _ (v .1));
         idle = λ h. let u = and-true _ _ (means-true _ _ (t3 .0) (ap not h)) in (eqb-true _ _ (u .0), not-true _ (u .1));
         own = own-parts (or-true _ _ (t4 .0));
         sure = λ h. let u = and-true _ _ (means-true _ _ (t5 .0) h) in (u .0, eqb-true _ _ (u .1));
@@ -70,7 +83,7 @@ module _ (s : Slot) (image : List ℕ) where
   unfolding sound emptySound idleSound typeSound openSound countsSound
   sound-whole r =
       both (r .sized)
-      (both (meaning _ (λ h. let u = r .empty (not-true _ h) in both (ap not (u .0)) (eq-eqb _ _ (u .1))))
+      (both (meaning _ (λ h. let u = r .empty (not-true _ h) in both (ap not (u .0)) (both (eq-eqb _ _ (u .1)) (ap not (u .2)))))
       (both (meaning _ (λ h. let u = r .idle (not-true _ h) in both (eq-eqb _ _ (u .0)) (ap not (u .1))))
       (both (own-whole (r .own))
       (both (meaning _ (λ h. let u = r .sure h in both (u .0) (eq-eqb _ _ (u .1))))
@@ -105,7 +118,7 @@ module _ (s : Slot) (image : List ℕ) where
   pub off-sound : Sound s image → Sound (powered false s) image
   off-sound r = record {
     sized = r .sized;
-    empty = λ h. (refl, r .empty h .1);
+    empty = λ h. (refl, r .empty h .1, r .empty h .2);
     idle = λ h. (refl, refl);
     own = inl refl;
     sure = λ h. absurd (false≢true h);
@@ -119,8 +132,8 @@ module _ (s : Slot) (image : List ℕ) where
 
     pub selecting-sound : Sound (selecting (ownType (s .holds)) s) image
     selecting-sound = record {
-      sized = r .sized;
-      empty = r .empty;
+      sized = after-sized (ownType (s .holds)) s (r .sized);
+      empty = λ h. awake (r .empty h .0);
       idle = awake;
       own = inr refl;
       sure = λ h. absurd (false≢true h);
@@ -203,7 +216,7 @@ module _ (image : List ℕ) where
   pub removed-sound : sound removed image ≡ true
   removed-sound = sound-whole removed image record {
     sized = sized8;
-    empty = λ h. (refl, refl);
+    empty = λ h. (refl, refl, refl);
     idle = λ h. (refl, refl);
     own = inl refl;
     sure = λ h. absurd (false≢true h);

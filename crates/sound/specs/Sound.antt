@@ -27,9 +27,9 @@ imageIsCard (Card chip) image = isCard (facts chip) image
 unfoldable pub pageSize : ℕ → Bool
 pageSize p = p is 8 or p is 16 or p is 32 or p is 64 or p is 128
 
--- "no card means inactive and page 8"
+-- "no card means inactive and page 8"; 02: "number 4 is also given when there is no card and the flag is set"
 unfoldable pub emptySound : Slot → Bool
-emptySound s = not (occupied (s .holds)) means not (s .active) and s .page is 8
+emptySound s = not (occupied (s .holds)) means not (s .active) and s .page is 8 and not (s .chosen)
 
 -- "inactive means no type and closed"
 unfoldable pub idleSound : Slot → Bool

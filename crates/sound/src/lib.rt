@@ -32,7 +32,7 @@ pub fn fits(slot: Slot, image: &[u8]) -> bool
     card::is_card(chip, image)
 }
 
-// No card means inactive and page 8.
+// No card means inactive and page 8, and no command 01 that has succeeded.
 fn empty_sound(slot: Slot) -> bool
     ensures { λ r. ⌜ r ≡ emptySound slot ⌝ }
 {
@@ -42,7 +42,10 @@ fn empty_sound(slot: Slot) -> bool
     if slot.active {
         return false;
     }
-    slot.page == 8
+    if slot.page != 8 {
+        return false;
+    }
+    !slot.chosen
 }
 
 // Inactive means no type and closed.

@@ -55,7 +55,7 @@ failing k [] = 0
 failing k (w ∷ ws) = let later = failing (k + 1) ws in holds w ⇒ later ⁏ k
 
 -- ---- the words of the table
--- a card put in; and one powered and with its type selected: closed, and page 8
+-- a card put in; and one powered and with its type selected: closed, and with the page of its type
 abbrev pub fresh : Chip → Slot
 fresh chip = inserted chip 0 0
 

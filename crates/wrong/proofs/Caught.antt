@@ -27,7 +27,7 @@ use Rattle.frame.proofs.AnswerLaws.{gives-is}
 use Rattle.reader.specs.Rules.{rules}
 use Rattle.promise.specs.Seats.{seated, seatImage}
 use Rattle.wrong.specs.Wrong.{Doer, parts}
-use Rattle.wrong.specs.Caught.{likeSlot, likeOutcome, likeOutcomes, likeDeed, likeFacts, Witness, byMessage, byRun, byInsertion, byRemoval, byCommand, byRow}
+use Rattle.wrong.specs.Caught.{likeSlot, likeOutcome, likeOutcomes, likeDeed, likeFacts, Witness, byMessage, byRun, byInsertion, byRemoval, bySeat, byRow}
 use Rattle.wrong.specs.Caught.{caught, uncaught, tests, Apart}
 use Rattle.wrong.specs.Caught.{Call, GivesEach, Refuted, EachRefuted}
 use Rattle.wrong.specs.Witnesses.{wrongReaders, witnesses}
@@ -39,7 +39,7 @@ unfolding likeSlot
 slot-self s =
     both (eq-eqb (kindOf (s .holds)) _ refl)
     (both (beq-self (s .active)) (both (eq-eqb (s .selected) _ refl) (both (eq-eqb (s .page) _ refl) (both (beq-self (s .«open»))
-    (both (eq-eqb (s .set) _ refl) (both (eq-eqb (s .tries) _ refl) (eq-eqb (s .protected) _ refl)))))))
+    (both (eq-eqb (s .set) _ refl) (both (eq-eqb (s .tries) _ refl) (both (eq-eqb (s .protected) _ refl) (beq-self (s .chosen)))))))))
 
 facts-self : (f : Facts) → likeFacts f f ≡ true
 unfolding likeFacts
@@ -95,14 +95,14 @@ deeds-alike m d e r left was holds g h =
     both (same-of (sym (said-of Transfer m Fault.Clear (d .slot) (d .said)) ∙ ap (drop 10) same-told ∙ said-of Transfer m Fault.Clear (e .slot) (e .said)))
     (both (like-slot (sym (g .slot) ∙ h .slot)) (same-of (sym (g .image) ∙ h .image)))
 
-command-refuted : (w : Doer) (chip : Chip) (page : ℕ) (m : List ℕ) → Seated chip page m
-    → let s = seated chip page in let image = seatImage chip in
-    likeDeed (w (facts chip) s image (apdu m)) (commanded (facts chip) s image (apdu m)) ≡ false → Refuted (byCommand w chip page m)
-command-refuted w chip page m c e r left was holds g h =
-    let s = seated chip page in
+command-refuted : (w : Doer) (chip : Chip) (chosen : Bool) (page : ℕ) (m : List ℕ) → Seated chip chosen page m
+    → let s = seated chip chosen page in let image = seatImage chip in
+    likeDeed (w (facts chip) s image (apdu m)) (commanded (facts chip) s image (apdu m)) ≡ false → Refuted (bySeat w chip chosen page m)
+command-refuted w chip chosen page m c e r left was holds g h =
+    let s = seated chip chosen page in
     let image = seatImage chip in
-    let ours = seat-ours chip page m c in
-    let theirs = seat-does chip page m c w in
+    let ours = seat-ours chip chosen page m c in
+    let theirs = seat-does chip chosen page m c w in
     no-test (deeds-alike m (w (facts chip) s image (apdu m)) (commanded (facts chip) s image (apdu m)) r left was holds
     (gives-is (sym theirs) g) (gives-is (sym ours) h)) e
 
@@ -117,10 +117,10 @@ refuted (byMessage w s image m room) e = no-code _ _ (not-true _ e)
 refuted (byRun w s image ms) e = λ cs g h. no-test (met-each _ _ cs g h) (not-true _ e)
 refuted (byInsertion w s kind image) e = no-code _ _ (not-true _ e)
 refuted (byRemoval w s) e = λ r p q. no-test (like-slot (sym p ∙ q)) (not-true _ e)
-refuted (byCommand w chip page m) e =
+refuted (bySeat w chip chosen page m) e =
     let t = and-true _ _ e in
-    let c = seats-parts chip page m (t .0) in
-    command-refuted w chip page m c (not-true _ (t .1))
+    let c = seats-parts chip chosen page m (t .0) in
+    command-refuted w chip chosen page m c (not-true _ (t .1))
 refuted (byRow w chip) e = λ r p q. no-test (like-facts (sym p ∙ q)) (not-true _ e)
 
 -- where no row is uncaught, every row is refuted
@@ -148,6 +148,6 @@ all-caught = refl
 pub all-refuted : EachRefuted wrongReaders
 all-refuted = each-refuted 0 wrongReaders all-caught
 
-pub row-count : length wrongReaders ≡ 1790
+pub row-count : length wrongReaders ≡ 1881
 unfolding rules wrongReaders
 row-count = refl

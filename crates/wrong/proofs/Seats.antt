@@ -1,7 +1,7 @@
 -- A command to a `seated` card does what the rules say, and in a reader whose commands do something else it does that.
 use Prim.Native.Nat.{ℕ, _<_}
 use mathlib.Core.Path.{_≡_, refl}
-use mathlib.Core.Bool.{true}
+use mathlib.Core.Bool.{Bool, true}
 use mathlib.Core.List.{List}
 use native.Mathlib.Omega.{arith}
 use lib.ListN.{length}
@@ -26,16 +26,16 @@ use Rattle.wrong.specs.Wrong.{Doer, commandingOn, commanding}
 use Rattle.wrong.specs.Caught.{seats}
 
 -- what `seats` tests
-pub record Seated (chip : Chip) (page : ℕ) (m : List ℕ) : Type 0 where
+pub record Seated (chip : Chip) (chosen : Bool) (page : ℕ) (m : List ℕ) : Type 0 where
   pub some : 0 < facts chip .page
   pub sized : pageSize page ≡ true
   pub header : leb 10 (length m) ≡ true
   pub asked : transfers (requestOf (typeByte m)) ≡ true
-  pub clear : isClear (faultOf Transfer (seated chip page) m) ≡ true
+  pub clear : isClear (faultOf Transfer (seated chip chosen page) m) ≡ true
 
-pub seats-parts : (chip : Chip) (page : ℕ) (m : List ℕ) → seats chip page m ≡ true → Seated chip page m
+pub seats-parts : (chip : Chip) (chosen : Bool) (page : ℕ) (m : List ℕ) → seats chip chosen page m ≡ true → Seated chip chosen page m
 unfolding seats
-seats-parts chip page m e =
+seats-parts chip chosen page m e =
     let t1 = and-true _ _ e in
     let t2 = and-true _ _ (t1 .1) in
     let t3 = and-true _ _ (t2 .1) in
@@ -48,16 +48,16 @@ seats-parts chip page m e =
       clear = t4 .1;
     }
 
-module _ (chip : Chip) (page : ℕ) (m : List ℕ) (c : Seated chip page m) where
-  pub seat-ours : exchange (seated chip page) (seatImage chip) m leastRoom
-      ≡ answered Transfer m Fault.Clear (commanded (facts chip) (seated chip page) (seatImage chip) (apdu m))
+module _ (chip : Chip) (chosen : Bool) (page : ℕ) (m : List ℕ) (c : Seated chip chosen page m) where
+  pub seat-ours : exchange (seated chip chosen page) (seatImage chip) m leastRoom
+      ≡ answered Transfer m Fault.Clear (commanded (facts chip) (seated chip chosen page) (seatImage chip) (apdu m))
   unfolding selectedSlot commanded
   seat-ours =
-      transfer-does chip (seated chip page) (seatImage chip) (sentWith m leastRoom) refl
-      (seat-heard chip (c .some) page (c .sized) m (c .header) (c .asked) (c .clear))
-      (seat-transfer chip (c .some) page (c .sized) m (c .header) (c .asked) (c .clear))
+      transfer-does chip (seated chip chosen page) (seatImage chip) (sentWith m leastRoom) refl
+      (seat-heard chip (c .some) chosen page (c .sized) m (c .header) (c .asked) (c .clear))
+      (seat-transfer chip (c .some) chosen page (c .sized) m (c .header) (c .asked) (c .clear))
 
-  pub seat-does : (does : Doer) → commanding does (seated chip page) (seatImage chip) m leastRoom
-      ≡ answered Transfer m Fault.Clear (does (facts chip) (seated chip page) (seatImage chip) (apdu m))
+  pub seat-does : (does : Doer) → commanding does (seated chip chosen page) (seatImage chip) m leastRoom
+      ≡ answered Transfer m Fault.Clear (does (facts chip) (seated chip chosen page) (seatImage chip) (apdu m))
   unfolding selectedSlot commandingOn
-  seat-does does = first _ _ (both (seat-heard chip (c .some) page (c .sized) m (c .header) (c .asked) (c .clear)) (c .asked))
+  seat-does does = first _ _ (both (seat-heard chip (c .some) chosen page (c .sized) m (c .header) (c .asked) (c .clear)) (c .asked))

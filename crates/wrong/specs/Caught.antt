@@ -37,6 +37,7 @@ likeSlot s t =
     and s .set is t .set
     and s .tries is t .tries
     and s .protected is t .protected
+    and Bool·beq (s .chosen) (t .chosen)
 
 unfoldable pub likeOutcome : Outcome → Outcome → Bool
 likeOutcome o p =
@@ -74,13 +75,13 @@ likeFacts f g =
 
 -- ---- an I2C card of any size with its type selected (`seated`, `seatImage`), and a transfer to it that has no fault. That such a card's slot and image
 -- pass tests 3 and 4 is a law (`seat-heard`), so that no row looks through a large image to show it
-unfoldable pub seats : Chip → ℕ → List ℕ → Bool
-seats chip page m =
+unfoldable pub seats : Chip → Bool → ℕ → List ℕ → Bool
+seats chip chosen page m =
     facts chip .page isnt 0
     and pageSize page
     and leb 10 (length m)
     and transfers (requestOf (typeByte m))
-    and isClear (faultOf Transfer (seated chip page) m)
+    and isClear (faultOf Transfer (seated chip chosen page) m)
 
 -- ---- a wrong reader and the input at which it is caught; a run's messages, and a command's, are each lent the smallest answer buffer
 pub data Witness : Type 0 where
@@ -88,8 +89,12 @@ pub data Witness : Type 0 where
   byRun : Runner → Slot → List ℕ → List (List ℕ) → Witness
   byInsertion : Inserter → Slot → ℕ → List ℕ → Witness
   byRemoval : Remover → Slot → Witness
-  byCommand : Doer → Chip → ℕ → List ℕ → Witness
+  bySeat : Doer → Chip → Bool → ℕ → List ℕ → Witness
   byRow : Teller → Chip → Witness
+
+-- a command to a card whose page was chosen
+abbrev pub byCommand : Doer → Chip → ℕ → List ℕ → Witness
+byCommand w chip page m = bySeat w chip true page m
 
 -- it gives something else than the rules
 unfoldable pub caught : Witness → Bool
@@ -97,11 +102,11 @@ caught (byMessage w s image m room) = not (likeOutcome (w s image m room) (excha
 caught (byRun w s image ms) = not (likeOutcomes (w s image (lent ms)) (run s image (lent ms) .outcomes))
 caught (byInsertion w s kind image) = not (likeOutcome (w s kind image) (insertion s kind image))
 caught (byRemoval w s) = not (likeSlot (w s) removed)
-caught (byCommand w chip page m) =
+caught (bySeat w chip chosen page m) =
     let f = facts chip in
-    let s = seated chip page in
+    let s = seated chip chosen page in
     let image = seatImage chip in
-    seats chip page m and not (likeDeed (w f s image (apdu m)) (commanded f s image (apdu m)))
+    seats chip chosen page m and not (likeDeed (w f s image (apdu m)) (commanded f s image (apdu m)))
 caught (byRow w chip) = not (likeFacts (w chip) (facts chip))
 
 -- the number of the first row that is not caught, the first row being number k; 0 where all are
@@ -132,8 +137,8 @@ Refuted (byMessage w s image m room) = Apart (w s image m room) (exchange s imag
 Refuted (byRun w s image ms) = (cs : List Call) → GivesEach (w s image (lent ms)) cs → GivesEach (run s image (lent ms) .outcomes) cs → ⊥
 Refuted (byInsertion w s kind image) = Apart (w s kind image) (insertion s kind image)
 Refuted (byRemoval w s) = (r : Slot) → r ≡ w s → r ≡ removed → ⊥
-Refuted (byCommand w chip page m) =
-    Apart (commanding w (seated chip page) (seatImage chip) m leastRoom) (exchange (seated chip page) (seatImage chip) m leastRoom)
+Refuted (bySeat w chip chosen page m) =
+    Apart (commanding w (seated chip chosen page) (seatImage chip) m leastRoom) (exchange (seated chip chosen page) (seatImage chip) m leastRoom)
 Refuted (byRow w chip) = (r : Facts) → r ≡ w chip → r ≡ facts chip → ⊥
 
 abbrev pub EachRefuted : List Witness → Type 0

@@ -11,6 +11,7 @@ pub mod WrongPlain
 pub mod WrongStores
 pub mod WrongCounts
 pub mod WrongLarge
+pub mod WrongPages
 pub mod Inputs
 pub mod MessageRows
 pub mod CommandRows
@@ -19,6 +20,7 @@ pub mod PlainRows
 pub mod StoreRows
 pub mod CountRows
 pub mod LargeRows
+pub mod PageRows
 pub mod Witnesses
 pub mod WrongRecords
 pub mod WrongPrinters

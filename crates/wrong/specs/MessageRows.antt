@@ -3,7 +3,7 @@ use mathlib.Core.Bool.{true}
 use mathlib.Core.List.{List, [], _∷_, _++_}
 use lib.ListN.{replicate, take, set}
 use Rattle.chips.specs.declared.Chip.the-variants.{I2c1, Sle4428, Sle4442}
-use Rattle.slot.specs.Slots.{removed, powered, selecting, paged, opened}
+use Rattle.slot.specs.Slots.{removed, powered, selecting, pageAs, paged, opened}
 use Rattle.vectors.specs.Sessions.{recounted, fresh, image4442, image4428, transfer, wrong4442, right4442}
 use Rattle.promise.specs.Visits.{select, readCounter}
 use Rattle.wrong.specs.Wrong.{oneByOne}
@@ -65,7 +65,7 @@ downRows =
     ∷ on downs.looksAtNothing removed (0x00 ∷ []) (plain 0x65)
     ∷ on downs.anyPage (paged 24 (shut Sle4442)) mem4442 (plain 0x65)
     ∷ on downs.emptyActive (powered true removed) [] (plain 0x65)
-    ∷ on downs.emptyPaged (paged 16 removed) [] (plain 0x65)
+    ∷ on downs.emptyPaged (pageAs 16 removed) [] (plain 0x65)
     ∷ on downs.idleTyped (selecting 0x06 (fresh Sle4442)) mem4442 (plain 0x65)
     ∷ on downs.idleOpen (opened (selecting 0x06 (fresh Sle4442))) mem4442 (plain 0x65)
     ∷ on downs.otherType (selecting 0x05 (bare Sle4442)) mem4442 (plain 0x65)

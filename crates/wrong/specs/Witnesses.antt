@@ -23,6 +23,7 @@ use Rattle.wrong.specs.PlainRows.{plainRows, protectedRows}
 use Rattle.wrong.specs.StoreRows.{storeRows}
 use Rattle.wrong.specs.CountRows.{countRows}
 use Rattle.wrong.specs.LargeRows.{largeRows}
+use Rattle.wrong.specs.PageRows.{defaultRows}
 use Rattle.wrong.specs.WrongFaults as faults
 use Rattle.wrong.specs.WrongSteps as steps
 
@@ -78,6 +79,7 @@ wrongReaders =
     ++ storeRows
     ++ countRows
     ++ largeRows
+    ++ defaultRows
     ++ slotRows
     ++ typeRows
     ++ selectRows

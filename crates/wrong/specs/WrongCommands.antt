@@ -12,7 +12,7 @@ use Rattle.codes.specs.Counters.{tries, spent}
 use Rattle.chips.specs.declared.Facts.{Facts}
 use Rattle.reads.specs.Reads.{bytesRead}
 use Rattle.slot.specs.declared.Slot.{Slot}
-use Rattle.slot.specs.Slots.{paged, powered, selecting, opened, closed}
+use Rattle.slot.specs.Slots.{paged, powered, typeAs, pageAs, opened, closed}
 use Rattle.steps.specs.Steps.{p1p2, p3, body}
 use Rattle.orders.specs.Orders.{Deed, done}
 use Rattle.wrong.specs.Wrong.{recounts, Reader, Doer, commanding, twisted, rowed, placed, tells, stands, leaves, doing, atWrong, atRight, counterOf, counting}
@@ -30,7 +30,7 @@ selectsNothing = doing 0xA4 λ f s image d e. stands (closed s) e
 
 -- puts the page to 8 at A4
 abbrev pub selectResetsPage : Reader
-selectResetsPage = doing 0xA4 λ f s image d e. stands (paged 8 (e .slot)) e
+selectResetsPage = doing 0xA4 λ f s image d e. stands (pageAs 8 (e .slot)) e
 
 -- gives all tries back at A4
 abbrev pub selectGivesAll : Reader
@@ -296,7 +296,7 @@ tellsCode = doing 0x20 λ f s image d e. tells (take (f .digits) (drop (f .code)
 -- ---- what a code leaves of the slot
 -- drops the type after a wrong code
 abbrev pub wrongUnselects : Reader
-wrongUnselects = atWrong λ f s image d e. stands (selecting 0 (e .slot)) e
+wrongUnselects = atWrong λ f s image d e. stands (typeAs 0 (e .slot)) e
 
 -- powers the card off after a wrong code
 abbrev pub wrongPowersOff : Reader

@@ -12,7 +12,7 @@ use Rattle.chips.specs.declared.Known.the-variants.{Is, Unknown}
 use Rattle.chips.specs.declared.Facts.{Facts}
 use Rattle.chips.specs.Kinds.{chipOf}
 use Rattle.slot.specs.declared.Slot.{Slot}
-use Rattle.slot.specs.Slots.{occupied, ownType, removed, powered, selecting, paged, opened, closed}
+use Rattle.slot.specs.Slots.{occupied, ownType, removed, powered, selecting, typeAs, pageAs, chosenAs, opened, closed}
 use Rattle.sound.specs.Sound.{fullCode, imageIsCard, pageSize, emptySound, idleSound, typeSound, openSound, setSound, countsSound, sound}
 use Rattle.frame.specs.declared.Refusal.{Refusal}
 use Rattle.frame.specs.Exchange.{turnedDown, exchange, insertion}
@@ -82,12 +82,12 @@ anyPage = vetting λ s image. emptySound s and idleSound s and typeSound s and o
 -- lets an empty slot through that is active
 abbrev pub emptyActive : Reader
 emptyActive = vetting λ s image.
-    pageSize (s .page) and (occupied (s .holds) or s .page is 8) and idleSound s and typeSound s and openSound s image and restIs s image
+    pageSize (s .page) and (occupied (s .holds) or s .page is 8 and not (s .chosen)) and idleSound s and typeSound s and openSound s image and restIs s image
 
 -- lets an empty slot through whose page is not 8
 abbrev pub emptyPaged : Reader
 emptyPaged = vetting λ s image.
-    pageSize (s .page) and (occupied (s .holds) or not (s .active)) and idleSound s and typeSound s and openSound s image and restIs s image
+    pageSize (s .page) and (occupied (s .holds) or not (s .active) and not (s .chosen)) and idleSound s and typeSound s and openSound s image and restIs s image
 
 -- lets an inactive slot through that has a type
 abbrev pub idleTyped : Reader
@@ -235,11 +235,11 @@ insertOpens = uponInsert λ f s o. slotting (opened (o .slot)) o
 
 -- keeps the page that the slot had at an insertion
 abbrev pub insertKeepsPage : Inserter
-insertKeepsPage = uponInsert λ f s o. slotting (paged (s .page) (o .slot)) o
+insertKeepsPage = uponInsert λ f s o. slotting (pageAs (s .page) (o .slot)) o
 
 -- sets the reader page to the chip's at an insertion
 abbrev pub insertChipPage : Inserter
-insertChipPage = uponInsert λ f s o. f .page is 0 ⇒ o ⁏ slotting (paged (f .page) (o .slot)) o
+insertChipPage = uponInsert λ f s o. f .page is 0 ⇒ o ⁏ slotting (pageAs (f .page) (o .slot)) o
 
 -- gives all tries back at an insertion
 abbrev pub insertGivesAll : Inserter
@@ -256,7 +256,7 @@ insertAnswers = uponInsert λ f s o. saying (0x50 ∷ 0x03 ∷ []) o
 -- ---- removal
 -- keeps the card at a removal
 abbrev pub removeKeepsCard : Remover
-removeKeepsCard s = paged 8 (powered false s)
+removeKeepsCard s = pageAs 8 (chosenAs false (powered false s))
 
 -- keeps the slot active at a removal
 abbrev pub removeKeepsActive : Remover
@@ -264,11 +264,11 @@ removeKeepsActive s = powered (s .active) removed
 
 -- keeps the type at a removal
 abbrev pub removeKeepsType : Remover
-removeKeepsType s = selecting (s .selected) removed
+removeKeepsType s = typeAs (s .selected) removed
 
 -- keeps the page at a removal
 abbrev pub removeKeepsPage : Remover
-removeKeepsPage s = paged (s .page) removed
+removeKeepsPage s = pageAs (s .page) removed
 
 -- keeps the slot open at a removal
 abbrev pub removeKeepsOpen : Remover

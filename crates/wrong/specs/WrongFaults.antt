@@ -9,7 +9,7 @@ use lib.Count.{trailingZeros}
 use Rattle.words.specs.Choice.{_⇒_⁏_, _and_, _or_, _is_, _isnt_}
 use Rattle.words.specs.Bytes.{byte, fourBytes}
 use Rattle.chips.specs.declared.Facts.{Facts}
-use Rattle.slot.specs.Slots.{occupied, powered, selecting, paged, opened, closed}
+use Rattle.slot.specs.Slots.{occupied, powered, typeAs, pageAs, opened, closed}
 use Rattle.faults.specs.declared.Fault.{Fault}
 use Rattle.faults.specs.Faults.{typeByte, dwLength, bSlot, supported, badField, ready, isClear, faultOf}
 use Rattle.frame.specs.Answers.{bError}
@@ -149,7 +149,7 @@ cardBeforeHeader = faulting λ r s m.
 -- ---- power on
 -- keeps the type at power on
 abbrev pub onKeepsType : Reader
-onKeepsType = upon 0x62 λ s image o. slotting (selecting (s .selected) (o .slot)) o
+onKeepsType = upon 0x62 λ s image o. slotting (typeAs (s .selected) (o .slot)) o
 
 -- keeps the card open at power on
 abbrev pub onKeepsOpen : Reader
@@ -157,7 +157,7 @@ onKeepsOpen = upon 0x62 λ s image o. s .«open» ⇒ slotting (opened (o .slot)
 
 -- puts the page to 8 at power on
 abbrev pub onResetsPage : Reader
-onResetsPage = upon 0x62 λ s image o. slotting (paged 8 (o .slot)) o
+onResetsPage = upon 0x62 λ s image o. slotting (pageAs 8 (o .slot)) o
 
 -- leaves the card inactive at power on
 abbrev pub onStaysIdle : Reader
@@ -178,7 +178,7 @@ resetShort = upon 0x62 λ s image o. cardIn (s .holds) .coded ⇒ telling (0x3B 
 -- ---- power off and slot status
 -- keeps the type at power off
 abbrev pub offKeepsType : Reader
-offKeepsType = upon 0x63 λ s image o. slotting (selecting (s .selected) (o .slot)) o
+offKeepsType = upon 0x63 λ s image o. slotting (typeAs (s .selected) (o .slot)) o
 
 -- keeps the card open at power off
 abbrev pub offKeepsOpen : Reader
@@ -186,7 +186,7 @@ offKeepsOpen = upon 0x63 λ s image o. s .«open» ⇒ slotting (opened (o .slot
 
 -- puts the page to 8 at power off
 abbrev pub offResetsPage : Reader
-offResetsPage = upon 0x63 λ s image o. slotting (paged 8 (o .slot)) o
+offResetsPage = upon 0x63 λ s image o. slotting (pageAs 8 (o .slot)) o
 
 -- closes the card at slot status
 abbrev pub statusCloses : Reader

@@ -6,6 +6,7 @@ use mathlib.Core.Bool.{Bool, false, not}
 use mathlib.Core.List.{List, [], _∷_, _++_}
 use lib.ListN.{length, take, drop, set, replicate}
 use lib.Seq.{sets}
+use lib.Dec.{ltb}
 use lib.IntN.{ℤ, pos, negsuc}
 use Rattle.words.specs.Choice.{_⇒_⁏_, _and_, _is_, _isnt_}
 use Rattle.words.specs.Bytes.{byte, same, lowFirst}
@@ -15,7 +16,7 @@ use Rattle.chips.specs.declared.Known.{Known}
 use Rattle.chips.specs.declared.Known.the-variants.{Is, Unknown}
 use Rattle.chips.specs.Kinds.{chipOf}
 use Rattle.sets.specs.Sets.{defaultSet}
-use Rattle.slot.specs.Slots.{removed}
+use Rattle.slot.specs.Slots.{removed, pageAs}
 use Rattle.record.specs.declared.Reading.{Reading}
 use Rattle.record.specs.Raw.{rawOf, slotOf}
 use Rattle.frame.specs.declared.Refusal.{Refusal}
@@ -28,6 +29,7 @@ use Rattle.vectors.specs.Plain.{image4418}
 use Rattle.promise.specs.Visits.{select}
 use Rattle.wrong.specs.ParamRows.{good1, stored}
 use Rattle.wrong.specs.CountRows.{kept255}
+use Rattle.wrong.specs.PageRows.{sized, chosenI2c}
 use Rattle.wrong.specs.Inputs.{bare, shut, wide, mem4442, kept4442, memI2c, plain, ask}
 
 -- ---- what a reader of a raw record is: of a message (record, image, message, length of the answer buffer), of an insertion, of a removal; and
@@ -70,7 +72,7 @@ uponAnswer change r image m room = let o = rawExchange r image m room in o .numb
 -- ---- reading the record
 -- does not look at the rest of the record
 abbrev pub rawAnyRest : RawReader
-rawAnyRest = recordBy λ r. slotOf (length r is 32 ⇒ take 16 r ++ replicate 16 0 ⁏ r)
+rawAnyRest = recordBy λ r. slotOf (length r is 32 ⇒ take 17 r ++ replicate 15 0 ⁏ r)
 
 -- does not look at the last byte of the record
 abbrev pub rawLastUnseen : RawReader
@@ -119,6 +121,38 @@ rawHighUnseen = recordBy λ r. slotOf (length r is 32 ⇒ set r 15 0 ⁏ r)
 -- takes the low byte of the number of protected bytes for tries left, and tries left for it
 abbrev pub rawTriesForCount : RawReader
 rawTriesForCount = recordBy λ r. slotOf (set (set r 13 (byte r 14)) 14 (byte r 13))
+
+-- does not look at the flag of the page
+abbrev pub rawFlagUnread : RawReader
+rawFlagUnread = recordBy λ r. slotOf (length r is 32 ⇒ set r 16 0 ⁏ r)
+
+-- takes a flag of 2 for 1
+abbrev pub rawFlag2 : RawReader
+rawFlag2 = recordBy λ r. slotOf (byte r 16 is 2 ⇒ set r 16 1 ⁏ r)
+
+-- takes any flag but 0 for 1
+abbrev pub rawFlagAny : RawReader
+rawFlagAny = recordBy λ r. slotOf (length r is 32 and byte r 16 isnt 0 ⇒ set r 16 1 ⁏ r)
+
+-- takes any flag but 1 for 0
+abbrev pub rawFlagElse0 : RawReader
+rawFlagElse0 = recordBy λ r. slotOf (length r is 32 and byte r 16 isnt 1 ⇒ set r 16 0 ⁏ r)
+
+-- asks that the flag is 00h, as the rest is
+abbrev pub rawFlagRest : RawReader
+rawFlagRest r image m room = let o = rawExchange r image m room in o .number is 0 and byte r 16 isnt 0 ⇒ rawDown Refusal.Record r image ⁏ o
+
+-- takes the open byte for the flag, and the flag for the open byte
+abbrev pub rawFlagForOpen : RawReader
+rawFlagForOpen = recordBy λ r. slotOf (set (set r 4 (byte r 16)) 16 (byte r 4))
+
+-- looks at the rest from byte 18 on
+abbrev pub rawRestFrom18 : RawReader
+rawRestFrom18 = recordBy λ r. slotOf (length r is 32 ⇒ set r 17 0 ⁏ r)
+
+-- tests the flag before the image
+abbrev pub rawFlagFirst : RawReader
+rawFlagFirst r image m room = let o = rawExchange r image m room in o .number is 3 and ltb 1 (byte r 16) ⇒ rawNumbering 4 o ⁏ o
 
 -- takes kind 0 for an unknown kind
 abbrev pub rawNoneUnknown : RawReader
@@ -177,6 +211,18 @@ rawCountStays = uponAnswer λ r o. rawMarking 14 (byte r 14) (rawMarking 15 (byt
 abbrev pub rawHighStays : RawReader
 rawHighStays = uponAnswer λ r o. rawMarking 15 (byte r 15) o
 
+-- leaves the flag of the page as it was
+abbrev pub rawFlagStays : RawReader
+rawFlagStays = uponAnswer λ r o. rawMarking 16 (byte r 16) o
+
+-- writes FFh for a flag that is set
+abbrev pub rawFlagFF : RawReader
+rawFlagFF = uponAnswer λ r o. byte (o .raw) 16 is 1 ⇒ rawMarking 16 0xFF o ⁏ o
+
+-- leaves the page as it was
+abbrev pub rawPageStays : RawReader
+rawPageStays = uponAnswer λ r o. rawMarking 3 (byte r 3) o
+
 -- forgets the card after a message
 abbrev pub rawForgetsCard : RawReader
 rawForgetsCard = uponAnswer λ r o. rawMarking 0 0 o
@@ -204,7 +250,7 @@ rawInsertsAnyLength r kind image = rawInsertion (take 32 r) kind image
 
 -- leaves the rest of the record as it was at an insertion
 abbrev pub rawInsertKeepsRest : RawInserter
-rawInsertKeepsRest r kind image = let o = rawInsertion r kind image in o .number is 0 ⇒ rawing (take 16 (o .raw) ++ drop 16 r) o ⁏ o
+rawInsertKeepsRest r kind image = let o = rawInsertion r kind image in o .number is 0 ⇒ rawing (take 17 (o .raw) ++ drop 17 r) o ⁏ o
 
 -- leaves the parameters of the record as they were at an insertion
 abbrev pub rawInsertKeepsSet : RawInserter
@@ -220,7 +266,15 @@ rawInsertKeepsCounts r kind image =
     o .number is 0 ⇒ rawing (take 13 (o .raw) ++ take 3 (drop 13 r) ++ drop 16 (o .raw)) o
     ⁏ o
 
+-- leaves the flag of the page as it was at an insertion
+abbrev pub rawInsertKeepsFlag : RawInserter
+rawInsertKeepsFlag r kind image = let o = rawInsertion r kind image in o .number is 0 ⇒ rawMarking 16 (byte r 16) o ⁏ o
+
 -- ---- removal
+-- leaves the flag of the page as it was at a removal
+abbrev pub rawRemovalKeepsFlag : RawRemover
+rawRemovalKeepsFlag r = let o = rawRemoval r in o .number is 0 ⇒ rawMarking 16 (byte r 16) o ⁏ o
+
 -- leaves the counts of the record as they were at a removal
 abbrev pub rawRemovalKeepsCounts : RawRemover
 rawRemovalKeepsCounts r = let o = rawRemoval r in o .number is 0 ⇒ rawing (take 13 (o .raw) ++ take 3 (drop 13 r) ++ drop 16 (o .raw)) o ⁏ o
@@ -231,7 +285,7 @@ rawRemovalLeaves r = rawing r (rawRemoval r)
 
 -- leaves the rest of the record as it was at a removal
 abbrev pub rawRemovalKeepsRest : RawRemover
-rawRemovalKeepsRest r = let o = rawRemoval r in o .number is 0 ⇒ rawing (take 16 (o .raw) ++ drop 16 r) o ⁏ o
+rawRemovalKeepsRest r = let o = rawRemoval r in o .number is 0 ⇒ rawing (take 17 (o .raw) ++ drop 17 r) o ⁏ o
 
 -- makes the parameters 00h at a removal
 abbrev pub rawRemovalZeroes : RawRemover
@@ -304,19 +358,22 @@ EachRawRefuted [] = Unit {0}
 EachRawRefuted (w ∷ ws) = RawRefuted w × EachRawRefuted ws
 
 -- ---- the table
--- the card's record, one with a T=1 set, and an empty one
+-- the card's record, one with a T=1 set, one of a card whose page was chosen, and an empty one
 abbrev pub cardRecord : List ℕ
 cardRecord = rawOf (recounted mem4442 (shut Sle4442))
 
 abbrev pub t1Record : List ℕ
 t1Record = rawOf (recounted mem4442 (stored 1 good1))
 
+abbrev pub chosenRecord : List ℕ
+chosenRecord = rawOf chosenI2c
+
 abbrev pub emptyRecord : List ℕ
 emptyRecord = rawOf removed
 
 unfoldable pub wrongRecords : List RawWitness
 wrongRecords =
-    byRawMessage rawAnyRest (set cardRecord 16 0x01) mem4442 (plain 0x65)
+    byRawMessage rawAnyRest (set cardRecord 17 0x01) mem4442 (plain 0x65)
     ∷ byRawMessage rawLastUnseen (set cardRecord 31 0x01) mem4442 (plain 0x65)
     ∷ byRawMessage rawActive2 (set cardRecord 1 0x02) mem4442 (plain 0x65)
     ∷ byRawMessage rawOpen2 (set cardRecord 4 0x02) mem4442 (plain 0x65)
@@ -360,6 +417,19 @@ wrongRecords =
     ∷ byRawMessage rawHighStays (rawOf (recounted kept255 (shut Sle4418))) kept255 (ask 0xD1 0x00 0x00 0x01 (0xA2 ∷ []))
     ∷ byRawInsertion rawInsertKeepsCounts emptyRecord 30 mem4442
     ∷ byRawRemoval rawRemovalKeepsCounts cardRecord
+    ∷ byRawMessage rawFlagUnread chosenRecord memI2c (select 0x01)
+    ∷ byRawMessage rawFlag2 (set cardRecord 16 0x02) mem4442 (plain 0x65)
+    ∷ byRawMessage rawFlagAny (set cardRecord 16 0xFF) mem4442 (plain 0x65)
+    ∷ byRawMessage rawFlagElse0 (set emptyRecord 16 0x02) [] (plain 0x65)
+    ∷ byRawMessage rawFlagRest chosenRecord memI2c (plain 0x65)
+    ∷ byRawMessage rawFlagForOpen (rawOf (recounted mem4442 (wide Sle4442))) mem4442 (plain 0x65)
+    ∷ byRawMessage rawRestFrom18 (set cardRecord 17 0x01) mem4442 (plain 0x65)
+    ∷ byRawMessage rawFlagFirst (set cardRecord 16 0x02) (image4442 0x08) (plain 0x65)
+    ∷ byRawMessage rawFlagStays (rawOf (shut I2c1)) memI2c (sized 0x04)
+    ∷ byRawMessage rawFlagFF (rawOf (shut I2c1)) memI2c (sized 0x04)
+    ∷ byRawMessage rawPageStays (rawOf (pageAs 16 (bare I2c1))) memI2c (select 0x01)
+    ∷ byRawInsertion rawInsertKeepsFlag (set emptyRecord 16 0x01) 1 memI2c
+    ∷ byRawRemoval rawRemovalKeepsFlag chosenRecord
     ∷ []
 
 -- all of these at once, for what is proved by computing them

@@ -161,8 +161,8 @@ fn run(over: Over, root: &Path, file: &str, steps: &[Step], told: bool) -> Resul
                     say!("{:>4}  {}: {}", line, cut(source), if met { "so it is" } else { "IT IS NOT SO" });
                 }
                 if !met {
-                    let came = last.whole_line();
-                    run.failures.push(format!("line {}: {}: {} '{}'", line, cut(source), over.gave(), came));
+                    let came = last.came(expected);
+                    run.failures.push(format!("line {}: {}: {} {}", line, cut(source), over.gave(), came));
                 }
             }
         }

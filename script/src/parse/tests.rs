@@ -243,6 +243,21 @@ fn changed_places() {
 }
 
 #[test]
+fn expected_pages() {
+    let text = "remove\nexpect page 8 not chosen\nexpect page 16 chosen\nexpect page 32 not chosen\n\
+                expect page 64 chosen\nexpect page 128 chosen";
+    let pages: Vec<(u8, bool)> = script(Over::Trial, text)
+        .unwrap_or_default()
+        .into_iter()
+        .filter_map(|step| match step {
+            Step::Expect { expected: Expected::Page(page, chosen), .. } => Some((page, chosen)),
+            _ => None,
+        })
+        .collect();
+    assert_eq!(pages, [(8, false), (16, true), (32, false), (64, true), (128, true)]);
+}
+
+#[test]
 fn images() {
     let plain = image("insert sle4442");
     assert_eq!(plain[..260], [0xff; 260]);
@@ -353,10 +368,16 @@ fn faults_name_their_line() {
             "remove\nexpect changed 0000",
             "'expect changed' is for './play --trial': the session program tells nothing of the image",
         ),
+        (
+            "remove\nexpect page 8 not chosen",
+            "'expect page' is for './play --trial': the session program tells nothing of the slot record",
+        ),
     ] {
         assert_eq!(fault(&format!("# first\n{}", line)), (1 + line.lines().count(), text.to_string()), "{}", line);
     }
 }
+
+const EXPECT_PAGE: &str = "it is 'expect page' with a number of bytes, and then 'chosen' or 'not chosen'";
 
 /// What has no meaning over the trial program, and its limits.
 #[test]
@@ -369,6 +390,17 @@ fn faults_over_the_trial_program() {
         ("remove\nexpect changed 0000 0001", "it is 'expect changed' with a list of addresses, or with 'nothing'"),
         ("remove\nexpect changed 0001..0000", "'0001..0000' ends before it begins"),
         ("remove\nexpect changed all", "'all' is no address in hex"),
+        ("remove\nexpect page", EXPECT_PAGE),
+        ("remove\nexpect page 32", EXPECT_PAGE),
+        ("remove\nexpect page chosen", EXPECT_PAGE),
+        ("remove\nexpect page 32 by type", EXPECT_PAGE),
+        ("remove\nexpect page 32 chosen now", EXPECT_PAGE),
+        ("remove\nexpect page 32 not", EXPECT_PAGE),
+        ("remove\nexpect page 03 chosen", "'03' is no reader page: 8, 16, 32, 64 or 128"),
+        ("remove\nexpect page 256 chosen", "'256' is no reader page: 8, 16, 32, 64 or 128"),
+        ("remove\nexpect page +8 not chosen", "'+8' is no reader page: 8, 16, 32, 64 or 128"),
+        ("remove\nexpect page not chosen", "'not' is no reader page: 8, 16, 32, 64 or 128"),
+        ("expect page 8 not chosen", "there is no answer to expect anything of yet"),
         ("raw 00*601", "the trial program takes a message of at most 600 bytes, and these are 601"),
         ("send 00*591", "the trial program takes a message of at most 600 bytes, and these are 601"),
         ("insert i2c1024 long 1", "the trial program takes an image of at most 131072 bytes, and these are 131073"),

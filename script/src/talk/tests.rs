@@ -112,6 +112,7 @@ fn changes() {
         message: message.clone(),
         line: "msg 0 800200000000090000009000".to_string(),
         kind: 11,
+        page: Some((32, 0)),
         slot: None,
         changed: vec![(0x0007, vec![0x01]), (0xffff, vec![0x0a, 0x0b]), (0x1fffe, vec![0xff])],
     };
@@ -139,4 +140,24 @@ fn slots() {
     assert_eq!(parts[1..], [("line", "in 0, the card is in".into()), ("slot", "kind 11, inactive".into())]);
     assert_eq!(inserted.whole_line(), "in 0");
     assert!(inserted.meets(&Expected::Changed(Vec::new())));
+}
+
+/// The reader page and whether the host chose it; a byte that is neither 0 nor 1 meets nothing.
+#[test]
+fn pages() {
+    let with = |page: Option<(u8, u8)>| Heard { line: "out 0".to_string(), page, ..Heard::default() };
+    for (page, expected) in [((8, 0), (8, false)), ((32, 0), (32, false)), ((8, 1), (8, true)), ((128, 1), (128, true))]
+    {
+        let expected = Expected::Page(expected.0, expected.1);
+        assert!(with(Some(page)).meets(&expected));
+        for unmet in [None, Some((page.0, 1 - page.1)), Some((16, page.1)), Some((page.0, 2)), Some((page.0, 0xff))] {
+            assert!(!with(unmet).meets(&expected), "{:?} is not {:?}", unmet, page);
+        }
+    }
+    // What came is told with the page where one was expected.
+    let heard = with(Some((8, 1)));
+    assert_eq!(heard.came(&Expected::Page(32, false)), "'out 0' and page 8, chosen");
+    assert_eq!(with(Some((8, 7))).came(&Expected::Page(8, true)), "'out 0' and page 8, 07 for not chosen or chosen");
+    assert_eq!(heard.came(&Expected::Bad), "'out 0'");
+    assert_eq!(with(None).came(&Expected::Page(32, false)), "'out 0'");
 }

@@ -127,13 +127,18 @@ fn image_bytes_that_changed() {
 fn slot_records() {
     let mut record = [0; 32];
     record[3] = 8;
-    assert_eq!(slot(&record), "no card, inactive, no type, page 8, closed, tries left 0, protected 0");
+    assert_eq!(slot(&record), "no card, inactive, no type, page 8, not chosen, closed, tries left 0, protected 0");
+    record[..5].copy_from_slice(&[11, 1, 2, 32, 0]);
+    assert_eq!(slot(&record), "kind 11, active, type 02, page 32, not chosen, closed, tries left 0, protected 0");
     record[..5].copy_from_slice(&[20, 1, 5, 128, 1]);
-    record[13..16].copy_from_slice(&[8, 0xff, 0x03]);
-    assert_eq!(slot(&record), "kind 20, active, type 05, page 128, open, tries left 8, protected 1023");
+    record[13..17].copy_from_slice(&[8, 0xff, 0x03, 1]);
+    assert_eq!(slot(&record), "kind 20, active, type 05, page 128, chosen, open, tries left 8, protected 1023");
     // A wrong reader may leave any bytes.
+    record[16] = 2;
+    assert!(slot(&record).contains(", page 128, 02 for not chosen or chosen, open,"), "{}", slot(&record));
     let (active, open) = ("FF for inactive or active", "FF for closed or open");
-    let wanted = format!("kind 255, {}, type FF, page 255, {}, tries left 255, protected 65535", active, open);
+    let page = "page 255, FF for not chosen or chosen";
+    let wanted = format!("kind 255, {}, type FF, {}, {}, tries left 255, protected 65535", active, page, open);
     assert_eq!(slot(&[0xff; 32]), wanted);
 }
 

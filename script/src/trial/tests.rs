@@ -72,6 +72,23 @@ fn lines_are_taken() {
     assert_eq!((kept.record, &kept.image[..]), (raw(0), &[][..]));
 }
 
+/// Page and flag are bytes 3 and 16 of the record, and a flag that changes alone is told.
+#[test]
+fn pages_are_taken() {
+    let mut kept = Kept::default();
+    let mut record = raw(9);
+    record[3] = 32;
+    let message = Record::Message(vec![]);
+    let heard = kept.take(&message, &line(0, &[], &record, "")).unwrap();
+    assert_eq!((heard.page, heard.slot), (Some((32, 0)), Some(tell::slot(&record))));
+    record[16] = 1;
+    let heard = kept.take(&message, &line(0, &[], &record, "")).unwrap();
+    assert_eq!((heard.page, heard.slot), (Some((32, 1)), Some(tell::slot(&record))));
+    // So it stays where a message is turned down.
+    let heard = kept.take(&message, &line(2, &[], &record, "")).unwrap();
+    assert_eq!((heard.page, heard.slot), (Some((32, 1)), None));
+}
+
 /// Runs on both sides of 10000h are one.
 #[test]
 fn runs_of_changes() {

@@ -1,17 +1,9 @@
 //! What is counted of tries left and number of protected bytes, which the slot record keeps: what it
 //! shows after a message, which messages keep them, what D1 adds, and stored ones that are off.
 
-use super::{has, Before, Count, Kind, SUPPORTED};
+use super::{card, has, what, Before, Count, Kind, SUPPORTED};
 use crate::random::{borders, most_protected, COUNT_FAULTS};
 use crate::reader::{Chip, Slot, CHIPS};
-
-/// A kind, or no card.
-fn card(kind: u8) -> String {
-    match kind {
-        0 => "no card".to_string(),
-        kind => format!("kind {}", kind),
-    }
-}
 
 /// What a byte of a D1's range is where it is not protected anew.
 const BESIDE: [&str; 3] = ["protected", "protected and unequal", "unequal"];
@@ -27,20 +19,11 @@ impl Count {
     pub(super) fn counts(&mut self, before: &Before, after: &Slot, message: &[u8], answer: &[u8]) {
         self.add(format!("shown, {}: {} tries", card(after.kind), after.tries));
         self.add(format!("shown, {}: {} protected", card(after.kind), after.protected));
-        let (kind, failed) = (message[0], answer[7] & 0x40 != 0);
-        let what = match message.get(11) {
-            _ if failed => format!("{:02X}h failed", kind),
-            Some(ins) if kind == 0x6f => {
-                let word = &answer[answer.len() - 2..];
-                format!("{:02X}: {:02X}{:02X}", ins, word[0], word[1])
-            }
-            _ => format!("{:02X}h", kind),
-        };
         let slot = &before.slot;
         let kept = (slot.tries, slot.protected) == (after.tries, after.protected);
         let seen = |chip: &Chip| (slot.tries != 0 || !chip.has_code()) && (slot.protected != 0 || !chip.has_bits());
         if kept && Chip::of(slot.kind).map_or(false, seen) {
-            self.add(format!("kept, {}: {}", card(slot.kind), what));
+            self.add(format!("kept, {}: {}", card(slot.kind), what(message, answer)));
         }
     }
 

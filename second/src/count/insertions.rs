@@ -57,6 +57,7 @@ fn others(record: &[u8; RECORD]) -> Vec<usize> {
 impl Count {
     /// An insertion of a trial case, and why it is turned down.
     pub fn insertion(&mut self, case: &Case, line: &str, why: &str) {
+        self.inserted_page(case, line.as_bytes()[0] - b'0');
         let mut add = |what: String| self.add(format!("insertion {}: {}", &line[..1], what));
         let (kind, others) = (case.message[0], others(&case.record));
         add(format!("buffer of {} bytes", case.buffer));
@@ -97,6 +98,7 @@ impl Count {
 
     /// A removal of a trial case.
     pub fn removal(&mut self, case: &Case, line: &str) {
+        self.removed_page(case);
         let mut add = |what: String| self.add(format!("removal {}: {}", &line[..1], what));
         let others = others(&case.record);
         others.iter().for_each(|k| add(format!("byte {} not the empty record's", k)));
@@ -156,14 +158,15 @@ mod tests {
     use super::*;
     use crate::case::Call;
 
-    /// What is counted of a call, without its buffer.
+    /// What is counted of a call, without its buffer and the flag of its record.
     fn counted(case: &Case, why: &str) -> Vec<String> {
         let mut count = Count::default();
         match case.call {
             Call::Removal => count.removal(case, &case.line()),
             _ => count.insertion(case, &case.line(), why),
         }
-        count.0.into_keys().filter(|what| !what.contains("buffer")).collect()
+        let other = |what: &String| !["buffer", "chosen", "byte 16 off"].iter().any(|word| what.contains(word));
+        count.0.into_keys().filter(other).collect()
     }
 
     fn case(call: Call, record: [u8; RECORD], message: &[u8], image: usize) -> Case {

@@ -53,6 +53,14 @@ fn outcome(range: &[Byte]) -> &'static str {
     }
 }
 
+/// Whether a write on I2C runs round with a reader page: a page of the chip begins inside a cut, and
+/// the byte there keeps its value, which is not the one sent.
+pub(super) fn runs_round(before: &Before, apdu: &[u8], reader_page: usize) -> bool {
+    let chip_page = Chip::of(before.slot.kind).map_or(reader_page, |chip| chip.page);
+    let keeps = |byte: &Byte| byte.address % chip_page == 0 && byte.address % reader_page != 0;
+    range(before, apdu).iter().skip(1).any(|byte| keeps(byte) && !byte.equal)
+}
+
 impl Count {
     /// A D0 on a card with protection bits: it found the card closed, or it was carried out.
     pub(super) fn write(&mut self, before: &Before, apdu: &[u8], word: u16) {
@@ -87,17 +95,15 @@ impl Count {
         }
     }
 
-    /// A write on I2C. It runs round where a page of the chip begins inside a cut: the byte there keeps
-    /// its value.
+    /// A write on I2C.
     pub(super) fn page_write(&mut self, before: &Before, apdu: &[u8], word: u16) {
         let (kind, reader_page) = (before.slot.kind, usize::from(before.slot.page));
         let mut add = |what: String| self.add(format!("kind {}: {:02X} {}: {:04X}", kind, apdu[1], what, word));
         add(format!("with reader page {}", reader_page));
-        let chip_page = Chip::of(kind).map_or(reader_page, |chip| chip.page);
-        let keeps = |byte: &Byte| byte.address % chip_page == 0 && byte.address % reader_page != 0;
-        if range(before, apdu).iter().skip(1).any(|byte| keeps(byte) && !byte.equal) {
+        if runs_round(before, apdu, reader_page) {
             add("runs round, a byte other than sent".to_string());
         }
+        self.page_of_write(before, apdu);
     }
 }
 
@@ -220,7 +226,7 @@ mod tests {
             let apdu = [&[0xff, 0xd0, 0x00, place, data.len() as u8], data].concat();
             counted_on(&Slot { page, ..ready(1) }, &[0x55; 128], &apdu)
         };
-        assert_eq!(counted(8, 6, &[1, 1, 1, 1]), ["D0 with reader page 8: 9000"]);
+        assert_eq!(counted(8, 6, &[1, 1, 1, 1]), ["D0 with reader page 8: 9000", "D0 with the page of its type"]);
         let round = ["D0 runs round, a byte other than sent: 9000", "D0 with reader page 16: 9000"];
         assert_eq!(counted(16, 6, &[1, 1, 1, 1]), round);
         // The byte at 8 is the one sent, or the first of the range; 10h begins a cut.

@@ -5,9 +5,9 @@ use super::commands::INS;
 use super::counts::counts;
 use super::{chip_of, Maker, Rng, Stream};
 use crate::case::{raw, Call, Case, HEADER, LONGEST_BUFFER, LONGEST_IMAGE, LONGEST_MESSAGE};
-use crate::case::{PROTOCOL, RECORD, REST};
+use crate::case::{CHOSEN, PROTOCOL, RECORD, REST};
 use crate::count::Count;
-use crate::reader::{Chip, Slot, LARGE};
+use crate::reader::{Chip, Slot, CHIPS, LARGE};
 use crate::step::Reader;
 use std::mem;
 
@@ -37,7 +37,7 @@ pub const CASE_ENDINGS: [&str; 22] = [
     "an image of FFFFFFFFh bytes",
 ];
 
-/// What makes a record unsound; each is tried on its own.
+/// What makes a record unsound but for its set, its counts and its flag; each is tried on its own.
 pub const RECORD_FAULTS: [&str; 16] = [
     "page no page",
     "no card but active",
@@ -57,8 +57,8 @@ pub const RECORD_FAULTS: [&str; 16] = [
     "a rest byte not 00h",
 ];
 
-/// What makes a record of a large card unsound; each is tried on its own on either. Its counts are
-/// another matter.
+/// What makes a record of a large card unsound; each is tried on its own on either. Its counts and its
+/// flag are another matter.
 pub const LARGE_FAULTS: [&str; 10] = [
     "page no page",
     "inactive but a type",
@@ -122,11 +122,22 @@ impl Maker {
         self.state_of(chip);
     }
 
+    /// Makes the case one of a sound slot with a card of any kind, each as often as another, or twice as
+    /// often without: its image; the record is still to come.
+    pub(super) fn each_state(&mut self, case: &mut Case) {
+        self.reader = Reader::empty();
+        if let Some(chip) = CHIPS.get(self.rng.below(CHIPS.len() + 2)) {
+            self.state_of(chip);
+            case.image = self.reader.image.clone();
+        }
+    }
+
     /// A sound slot with a card of that chip.
     pub(super) fn state_of(&mut self, chip: &Chip) {
         self.reader = Reader { slot: Slot::empty(), image: self.image(chip) };
         self.reader.slot.parameters = self.any_set();
         self.reader.slot.page = self.any_page();
+        self.reader.slot.chosen = self.rng.chance(50);
         let slot = &mut self.reader.slot;
         slot.kind = chip.kind;
         slot.active = self.rng.chance(94);
@@ -164,14 +175,17 @@ impl Maker {
 
     /// An active card that has its type selected, closed; its counts are still to come.
     fn selected_slot(&mut self, chip: &Chip) -> Slot {
-        let (page, parameters) = (self.any_page(), self.any_set());
-        Slot { kind: chip.kind, active: true, selected: chip.select, page, parameters, ..Slot::empty() }
+        let (page, chosen, parameters) = (self.any_page(), self.rng.chance(50), self.any_set());
+        Slot { kind: chip.kind, active: true, selected: chip.select, page, chosen, parameters, ..Slot::empty() }
     }
 
-    /// A D0 on an I2C card that is not large, each as often as another.
+    /// A D0 on an I2C card that is not large, each as often as another: often with the page of a type.
     fn any_page_write(&mut self) -> Vec<u8> {
         let chip = chip_of(1 + self.rng.below(9) as u8);
         self.reader = Reader { slot: self.selected_slot(chip), image: self.image(chip) };
+        if self.rng.chance(40) {
+            self.reader.slot.page = self.rng.pick(&[8, 8, 32]);
+        }
         let apdu = self.command(0xd0, chip.select);
         self.ccid(0x6f, &apdu)
     }
@@ -289,7 +303,7 @@ impl Maker {
     }
 
     /// The record of a sound slot with or without a card, one of which a byte or some are any, or any
-    /// bytes at all.
+    /// bytes at all; often with either flag.
     fn any_record(&mut self) -> [u8; RECORD] {
         let mut record = raw(&Slot::empty());
         if self.rng.chance(50) {
@@ -305,6 +319,9 @@ impl Maker {
                 }
             }
             _ => record.copy_from_slice(&self.rng.bytes(RECORD)),
+        }
+        if self.rng.chance(30) {
+            record[CHOSEN] = self.rng.pick(&[0, 1]);
         }
         record
     }
@@ -323,13 +340,14 @@ impl Maker {
             14..=25 if !faulty => self.any_change(0xd1),
             26..=35 if !faulty => self.any_large(),
             36..=51 if !faulty => self.any_spoiled(),
-            52..=55 if !faulty => self.any_page_write(),
-            56..=58 if !faulty => self.any_code(),
-            59..=66 if !faulty => {
+            52..=56 if !faulty => self.any_page_write(),
+            57..=59 if !faulty => self.any_code(),
+            60..=67 if !faulty => {
                 self.any_state();
                 self.damaged()
             }
-            67..=73 if !faulty => self.any_set_parameters(),
+            68..=74 if !faulty => self.any_set_parameters(),
+            75..=85 if !faulty => self.any_choice(),
             _ => {
                 self.any_state();
                 self.message()
@@ -382,9 +400,10 @@ impl Maker {
     /// Puts a fault into the record: which one, and whether it stands alone.
     fn unsound(&mut self, case: &mut Case) -> (String, bool) {
         match self.rng.below(100) {
-            0..=17 => return (self.unsound_set(case).to_string(), true),
-            18..=67 => return (self.unsound_counts(case), true),
-            68..=74 => return (self.unsound_large(case), true),
+            0..=15 => return (self.unsound_set(case).to_string(), true),
+            16..=61 => return (self.unsound_counts(case), true),
+            62..=68 => return (self.unsound_large(case), true),
+            69..=84 => return (self.unsound_flag(case), true),
             _ => {}
         }
         // Every rest byte has to be at fault, so that fault comes more often.

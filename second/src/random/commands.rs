@@ -107,7 +107,7 @@ impl Maker {
                 let value = if self.rng.chance(80) {
                     own
                 } else {
-                    self.rng.pick(&[0x00, 0x01, 0x02, 0x03, 0x04, 0x05, 0x06, 0x07, 0xff])
+                    self.rng.pick(&[0x00, 0x01, 0x01, 0x02, 0x02, 0x03, 0x04, 0x05, 0x06, 0x07, 0xff])
                 };
                 brought(0, vec![value])
             }

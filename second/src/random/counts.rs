@@ -3,7 +3,8 @@
 
 use super::Maker;
 use crate::case::{raw, Case};
-use crate::reader::{Chip, CHIPS};
+use crate::count::card;
+use crate::reader::Chip;
 use crate::step::Reader;
 
 /// A way in which stored counts are off: what is added to tries left and to the number of protected
@@ -91,23 +92,16 @@ impl Maker {
     /// Makes the case one of a slot whose counts are off: on which kind, and how.
     pub(super) fn unsound_counts(&mut self, case: &mut Case) -> String {
         let fault = &COUNT_FAULTS[self.rng.below(COUNT_FAULTS.len())];
-        let kind = match CHIPS.get(self.rng.below(CHIPS.len() + 1)) {
-            Some(chip) => {
-                self.state_of(chip);
-                self.counts_above_0(chip);
-                case.image = self.reader.image.clone();
-                format!("kind {}", chip.kind)
-            }
-            None => {
-                self.reader = Reader::empty();
-                "no card".to_string()
-            }
-        };
+        self.each_state(case);
+        if let Some(chip) = self.chip() {
+            self.counts_above_0(chip);
+            case.image = self.reader.image.clone();
+        }
         let slot = &mut self.reader.slot;
         slot.tries = slot.tries.wrapping_add(self.rng.pick(fault.tries));
         slot.protected = slot.protected.wrapping_add(self.rng.pick(fault.protected));
         case.record = raw(slot);
-        format!("{}: {}", kind, fault.name)
+        format!("{}: {}", card(slot.kind), fault.name)
     }
 
     /// Makes counts that are 0 another number, where the chip has it, so that there is one less.
@@ -127,6 +121,7 @@ impl Maker {
 mod tests {
     use super::*;
     use crate::random::Rng;
+    use crate::reader::CHIPS;
 
     /// What is counted here is what the rules count.
     #[test]

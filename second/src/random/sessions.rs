@@ -1,7 +1,7 @@
 //! Sessions: cards that go in and out, messages, and what ends a session.
 
 use super::{chip_of, Maker, Rng, Stream};
-use crate::count::{self, Count};
+use crate::count::{self, Count, Pages};
 use crate::reader::LARGE;
 use crate::record::{whole, Record};
 use crate::step::{INSERT, LONGEST_BODY, MESSAGE, REMOVE};
@@ -37,6 +37,7 @@ pub fn sessions(seed: u64, index: u64, messages: usize, count: &mut Count) -> St
         befell: None,
         changed: None,
         large: None,
+        pages: Pages::default(),
         count,
     };
     while making.messages < messages {
@@ -59,6 +60,8 @@ struct Making<'a> {
     changed: Option<(u8, &'static str)>,
     /// The line of the record just before, where it is an insert of a large chip, and its kind.
     large: Option<(String, u8)>,
+    /// What became of a chosen page.
+    pages: Pages,
     count: &'a mut Count,
 }
 
@@ -103,6 +106,7 @@ impl Making<'_> {
         self.after_change(&before, &record, &line);
         self.parameters(&before, &record, &line);
         self.after_write(before.slot.kind, &record, &line);
+        self.pages.record(self.count, &before, &record, &line);
         self.stream.parts.push(record);
         self.stream.lines.push(line);
     }
@@ -250,6 +254,9 @@ impl Making<'_> {
             self.bad_insertion();
         }
         self.good_card();
+        if self.maker.rng.chance(40) {
+            self.choose_page();
+        }
         for _ in 0..10 + self.maker.rng.below(70) {
             match self.maker.rng.below(300) {
                 0 => self.good_card(),
@@ -272,6 +279,33 @@ impl Making<'_> {
         if self.maker.rng.chance(40) {
             self.look_over();
         }
+    }
+
+    /// On an I2C card: what is written with the page of the type is read, and then what is written with
+    /// a page that was chosen before another A4.
+    fn choose_page(&mut self) {
+        let select = match self.maker.chip() {
+            Some(chip) if !chip.has_bits() => chip.select,
+            _ => return,
+        };
+        let power_on = self.maker.ccid(0x62, &[]);
+        self.put(Record::Message(power_on.clone()), "");
+        self.command(&[0xff, 0xa4, 0x00, 0x00, 0x01, select]);
+        self.write_and_read(select);
+        let code = self.maker.rng.pick(&[0x03, 0x04, 0x05, 0x06, 0x07, 0x07, 0x07]);
+        self.command(&[0xff, 0x01, 0x00, 0x00, 0x01, code]);
+        if self.maker.rng.chance(50) {
+            self.put(Record::Message(power_on), "");
+        }
+        self.command(&[0xff, 0xa4, 0x00, 0x00, 0x01, select]);
+        self.write_and_read(select);
+    }
+
+    /// A D0, and a B0 of its range.
+    fn write_and_read(&mut self, select: u8) {
+        let write = self.maker.command(0xd0, select);
+        self.command(&write);
+        self.command(&[0xff, 0xb0, write[2], write[3], write[4]]);
     }
 
     /// Reads the card from end to end, or a large one here and there, so that what a write did

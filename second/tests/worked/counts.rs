@@ -331,7 +331,7 @@ fn trial_lines() {
     let protect = case(raw(&[21, 1, 5, 8, 0], 0, 255), "FF D1 00 FE 04 FE FF 55 01", image());
     assert_eq!(protect.line(), line("1501050800001100000a000000000101", "9000", " 041f=00 0420=fd"));
     // Each of the three bytes off alone, and a rest byte.
-    for (at, value) in [(13, 1), (14, 254), (14, 0), (15, 1), (15, 255), (16, 1), (31, 128)] {
+    for (at, value) in [(13, 1), (14, 254), (14, 0), (15, 1), (15, 255), (17, 1), (31, 128)] {
         let mut off = case(raw(&[21, 1, 5, 8, 0], 0, 255), "FF D1 00 FE 04 FE FF 55 01", image());
         off.record[at] = value;
         let digits: String = off.record.iter().map(|byte| format!("{:02x}", byte)).collect();

@@ -65,7 +65,7 @@ fn insertion_power_and_type() {
             let word = if value == 0x02 { "9000" } else { "6a80" };
             assert_eq!(host.send_bytes(&[0xff, 0xa4, 0x00, 0x00, 0x01, value]), word, "{}", value);
         }
-        assert_eq!(host.0.slot, Slot { kind, active: true, selected: 2, ..Slot::empty() });
+        assert_eq!(host.0.slot, Slot { kind, active: true, selected: 2, page: 32, ..Slot::empty() });
         assert_eq!(host.0.image, image(kind));
         // Another card does not go in over it.
         assert_eq!(reader::insert(&mut host.0.slot, 11, &kind_11()), Err(5));
@@ -193,7 +193,7 @@ fn the_reader_page() {
         ] {
             assert_eq!(host.send(apdu), word, "{}", apdu);
         }
-        assert_eq!(host.0.slot, Slot { kind, active: true, selected: 2, page: 128, ..Slot::empty() });
+        assert_eq!(host.0.slot, Slot { kind, active: true, selected: 2, page: 128, chosen: true, ..Slot::empty() });
         // It survives power.
         host.raw("63 00000000 00 00 000000");
         host.raw(POWER_ON);
@@ -345,10 +345,10 @@ fn b1_reads_and_d1_writes() {
     // D1 of the bytes that stand there.
     assert_eq!(host.send("FF D1 00 00 04 B0 22 22 22"), "9000");
     assert_eq!(host.0.image, kind_11());
-    assert_eq!(host.0.slot, Slot { kind: 11, active: true, selected: 2, ..Slot::empty() });
+    assert_eq!(host.0.slot, Slot { kind: 11, active: true, selected: 2, page: 32, ..Slot::empty() });
     assert_eq!(host.send("FF D1 00 00 04 01 02 03 04"), "9000");
     assert_eq!(host.0.image, written(11, 0x10000, &[1, 2, 3, 4]));
-    assert_eq!(host.0.slot, Slot { kind: 11, active: true, selected: 2, ..Slot::empty() });
+    assert_eq!(host.0.slot, Slot { kind: 11, active: true, selected: 2, page: 32, ..Slot::empty() });
 }
 
 #[test]

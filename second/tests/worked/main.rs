@@ -3,6 +3,7 @@
 mod calls;
 mod counts;
 mod large;
+mod pages;
 mod parameters;
 mod protected;
 mod without_code;
@@ -549,8 +550,20 @@ fn insertions() {
     assert_eq!(host.0.record(INSERT, &[]).unwrap(), "in 3");
     assert_eq!(host.insert(30, &sle4442(7)), "in 0");
     let parameters = Parameters { protocol: 0, bytes: bytes("11 00 00 0A 00") };
-    let (active, open, tries, protected) = (false, false, 3, 0);
-    assert_eq!(host.0.slot, Slot { kind: 30, active, selected: 0, page: 8, open, parameters, tries, protected });
+    assert_eq!(
+        host.0.slot,
+        Slot {
+            kind: 30,
+            active: false,
+            selected: 0,
+            page: 8,
+            open: false,
+            parameters,
+            tries: 3,
+            protected: 0,
+            chosen: false
+        }
+    );
     assert_eq!(host.insert(30, &sle4442(8)), "in 5");
     assert_eq!(host.insert(20, &sle4428(0xff)), "in 5");
     assert_eq!(host.0.record(INSERT, &[]).unwrap(), "in 5");
@@ -625,6 +638,7 @@ fn any_bytes_at_all() {
             parameters: Parameters::default(),
             tries: next(10) as u8,
             protected: next(1026) as u16,
+            chosen: next(2) == 0,
         };
         if next(4) == 0 {
             slot.parameters = Parameters { protocol: next(3) as u8, bytes: vec![0x11; next(9)] };

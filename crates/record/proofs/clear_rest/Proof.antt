@@ -1,4 +1,4 @@
--- `clear_rest` meets its contract. The loop's invariant: so many bytes of 00h were stored from byte 16 on.
+-- `clear_rest` meets its contract. The loop's invariant: so many bytes of 00h were stored from byte 17 on.
 use borrow.Author.Needs.{needs}
 use mathlib.Core.Path.{_≡_, refl, ap, _∙_}
 use native.Mathlib.Omega.{arith}
@@ -11,7 +11,7 @@ use Rattle.record.proofs.clear_rest.Statement.{statement}
 use Rattle.record.proofs.clear_rest.Tie as tie
 
 abbrev Inv-loop : tie.InvT-loop
-Inv-loop raw₀ i₀ raw i = (16 ≤ i) × (i ≤ length raw₀) × (length raw ≡ length raw₀) × (raw ≡ sets raw₀ 16 (replicate (i - 16) 0))
+Inv-loop raw₀ i₀ raw i = (17 ≤ i) × (i ≤ length raw₀) × (length raw ≡ length raw₀) × (raw ≡ sets raw₀ 17 (replicate (i - 17) 0))
 
 abbrev μ-loop : tie.MeasureT-loop
 μ-loop raw₀ i₀ raw i = length raw₀ - i
@@ -41,8 +41,8 @@ returns : tie.Need-returns Inv-loop μ-loop
 returns c =
     let l = c .before .loop in
     let r = c .before .before .args .raw .now in
-    let e : l .i - 16 ≡ 16 = omega (arith, c .before .before .pre) in
-    l .inv .3 ∙ ap (λ (n : ℕ). sets r 16 (replicate n 0)) e
+    let e : l .i - 17 ≡ 15 = omega (arith, c .before .before .pre) in
+    l .inv .3 ∙ ap (λ (n : ℕ). sets r 17 (replicate n 0)) e
 
 pub clear-rest-spec : {M : Type 1} → statement M
 clear-rest-spec =

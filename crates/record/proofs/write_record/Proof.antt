@@ -1,4 +1,4 @@
--- `write_record` meets its contract: kind, bytes 1 to 12 and the rest are stored one behind the other.
+-- `write_record` meets its contract: kind, bytes 1 to 16 and the rest are stored one behind the other.
 use borrow.Author.Needs.{needs}
 use mathlib.Core.Path.{refl, ap, _∙_}
 use native.Mathlib.Omega.{arith}
@@ -41,7 +41,7 @@ same-length c =
     let a = c .before .before .before .before .before .before .before .before .before .before .before .args in
     let k = c .before .before .before .before .before .before .before .before .kind-of .result in
     ap length (c .before .before .clear-rest .ensures)
-    ∙ length-sets (c .before .before .before .before .before .before .write-state .last .1 .0) 16 (replicate 16 0)
+    ∙ length-sets (c .before .before .before .before .before .before .write-state .last .1 .0) 17 (replicate 15 0)
     ∙ ap length (c .before .before .before .before .before .before .write-state .ensures)
     ∙ length-sets (set (a .raw .now) 0 k) 1 (stateOf (a .slot))
     ∙ length-set (a .raw .now) 0 k
@@ -55,7 +55,7 @@ returns-2 c =
     let a = start .args in
     met _ (eq-eqb _ 32 (at-if1 .if1 .left))
     (c .before .before .clear-rest .ensures
-    ∙ ap (λ (t : List ℕ). sets t 16 (replicate 16 0)) (at-write-state .write-state .ensures)
+    ∙ ap (λ (t : List ℕ). sets t 17 (replicate 15 0)) (at-write-state .write-state .ensures)
     ∙ record-written (a .raw .now) (a .slot) (at-kind-of .kind-of .result) (at-if1 .if1 .left) (at-kind-of .kind-of .ensures))
 
 pub write-record-spec : {M : Type 1} → statement M

@@ -15,7 +15,7 @@ of-requires : tie.Need-of-requires
 of-requires c κs = search needs
 
 returns : tie.Need-returns
-returns c = c .of .ensures ∙ ap (λ (set : ℕ). slotted Holds.Empty false 0 8 false set 0 0) (c .before .default-set .ensures)
+returns c = c .of .ensures ∙ ap (λ (set : ℕ). slotted Holds.Empty false 0 8 false set 0 0 false) (c .before .default-set .ensures)
 
 pub empty-spec : {M : Type 1} → statement M
 empty-spec = tie.close (tie.spec default-set-requires of-requires returns)

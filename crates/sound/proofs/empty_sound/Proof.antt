@@ -2,6 +2,7 @@
 use borrow.Author.Needs.{needs}
 use mathlib.Core.Path.{refl, sym, ap, _∙_}
 use mathlib.Core.Bool.{not}
+use borrow.Author.Tests.{eq-eqb, ne-eqb}
 use Rattle.words.proofs.Choices.{and-fails, and-holds, means-off, means-on, taken}
 use Rattle.sound.specs.Sound.{emptySound}
 use Rattle.sound.proofs.empty_sound.Statement.{statement}
@@ -20,7 +21,17 @@ returns-2 c = means-on (ap not (sym (c .before .before .has-card .ensures) ∙ c
 
 returns-3 : tie.Need-returns-3
 unfolding emptySound
-returns-3 c = means-on (ap not (sym (c .before .before .before .has-card .ensures) ∙ c .before .before .if1 .left)) (and-holds (ap not (c .before .if2 .left)) refl)
+returns-3 c =
+    let at-if2 = c .before .before in
+    let at-if1 = at-if2 .before in
+    means-on (ap not (sym (at-if1 .before .has-card .ensures) ∙ at-if1 .if1 .left)) (and-holds (ap not (at-if2 .if2 .left)) (and-fails _ (ne-eqb _ 8 (c .if3 .taken))))
+
+returns-4 : tie.Need-returns-4
+unfolding emptySound
+returns-4 c =
+    let at-if2 = c .before .before .before in
+    let at-if1 = at-if2 .before in
+    means-on (ap not (sym (at-if1 .before .has-card .ensures) ∙ at-if1 .if1 .left)) (and-holds (ap not (at-if2 .if2 .left)) (and-holds (eq-eqb _ 8 (c .before .if3 .left)) refl))
 
 pub empty-sound-spec : {M : Type 1} → statement M
-empty-sound-spec = tie.close (tie.spec has-card-requires returns returns-2 returns-3)
+empty-sound-spec = tie.close (tie.spec has-card-requires returns returns-2 returns-3 returns-4)

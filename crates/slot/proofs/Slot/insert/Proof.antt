@@ -17,7 +17,7 @@ of-requires c κs = search needs
 returns : tie.Need-returns
 returns c =
     let a = c .before .before .args in
-    c .of .ensures ∙ ap (λ (set : ℕ). slotted (Holds.Card (a .chip)) false 0 8 false set (a .tries) (a .protected)) (c .before .default-set .ensures)
+    c .of .ensures ∙ ap (λ (set : ℕ). slotted (Holds.Card (a .chip)) false 0 8 false set (a .tries) (a .protected) false) (c .before .default-set .ensures)
 
 pub insert-spec : {M : Type 1} → statement M
 insert-spec = tie.close (tie.spec default-set-requires of-requires returns)
