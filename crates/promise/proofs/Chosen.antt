@@ -190,7 +190,7 @@ module _ (chip : Chip) where
       go false false x y = refl
 
   module _ (s : Slot) (image : List ℕ) (holds : s .holds ≡ Card chip) (new : s .page ≡ 8) (unset : s .chosen ≡ false) where
-    pub run-paging : (ms : List Sent) → Paging g s image ms (run s image ms .slot .page) (run s image ms .slot .chosen)
+    run-paging : (ms : List Sent) → Paging g s image ms (run s image ms .slot .page) (run s image ms .slot .chosen)
     unfolding _or_
     run-paging ms =
         let ts : List Turn = turns g s image ms in
@@ -202,22 +202,6 @@ module _ (chip : Chip) where
           flag = run-flag s image ms holds ∙ ap (λ (c : Bool). c or named ts) unset;
         }
 
-    -- by calls of `card_reader_message`: bytes 3 and 16 of the record
-    pub calls-paging : {r start : List ℕ} → r ≡ rawOf s → start ≡ image → {ms : List Sent} {r′ image′ : List ℕ} → Called r start ms r′ image′
-        → Paging g s image ms (pageShown r′) (chosenShown r′)
-    unfolding rawOf lowFirst
-    calls-paging written same {ms} {r′} calls =
-        let u : Slot = run s image ms .slot in
-        let e : r′ ≡ rawOf u = called-run calls s image written same .0 in
-        subst⁻¹ (λ (r : List ℕ). Paging g s image ms (pageShown r) (chosenShown r)) e
-        (subst⁻¹ (Paging g s image ms (u .page)) (flag-back (u .chosen)) (run-paging ms))
-
-    -- and by `sitting::perform`
-    pub sittings-paging : {before : Held} {had : List ℕ} → before .slot ≡ s → take (before .size) had ≡ image → {ms : List Sent} {held : Held} {left : List ℕ}
-        → Sat before had ms held left → Paging g s image ms (held .slot .page) (held .slot .chosen)
-    sittings-paging e i {ms} sits =
-        subst⁻¹ (λ (t : Slot). Paging g s image ms (t .page) (t .chosen)) (sat-run sits s image e i .0) (run-paging ms)
-
   -- ---- from the insertion on
   -- a card of any kind just inserted and left in: page and flag after any run of messages
   pub page-from : (s : Slot) (kind : ℕ) (image : List ℕ) → chipOf kind ≡ Is chip → insertion s kind image .number ≡ 0 → (ms : List Sent)
@@ -227,28 +211,29 @@ module _ (chip : Chip) where
       let q = put-in-slot chip s kind image known e in
       run-paging (put .slot) (put .image) (ap (λ (t : Slot). t .holds) q) (ap (λ (t : Slot). t .page) q) (ap (λ (t : Slot). t .chosen) q)
 
-  -- so by calls: the card was put in by `card_reader_insert`, which returned 0
+  -- so by calls: the card was put in by `card_reader_insert`, which returned 0; of bytes 3 and 16 of the record
   pub calls-page-from : (kind : ℕ) (r image : List ℕ) → chipOf kind ≡ Is chip → {left : List ℕ} → Returns (rawInsertion r kind image) (pos 0) left image [] []
       → {ms : List Sent} {r′ image′ : List ℕ} → Called left image ms r′ image′
       → let put = insertion removed kind image in Paging g (put .slot) (put .image) ms (pageShown r′) (chosenShown r′)
-  calls-page-from kind r image known returns calls =
+  unfolding rawOf lowFirst
+  calls-page-from kind r image known returns {ms} {r′} calls =
       let put = insertion removed kind image in
       let p = call-inserts kind r image returns in
-      let q = put-in-slot chip removed kind image known (p .0) in
-      calls-paging (put .slot) (put .image) (ap (λ (t : Slot). t .holds) q) (ap (λ (t : Slot). t .page) q) (ap (λ (t : Slot). t .chosen) q)
-      (p .1) (sym (put-image chip removed kind image)) calls
+      let now : Slot = run (put .slot) (put .image) ms .slot in
+      let e : r′ ≡ rawOf now = called-run calls (put .slot) (put .image) (p .1) (sym (put-image chip removed kind image)) .0 in
+      subst⁻¹ (λ (x : List ℕ). Paging g (put .slot) (put .image) ms (pageShown x) (chosenShown x)) e
+      (subst⁻¹ (Paging g (put .slot) (put .image) ms (now .page)) (flag-back (now .chosen)) (page-from removed kind image known (p .0) ms))
 
   -- and by records: it was put in by `sitting::perform` with an insert record, which printed 0
   pub sittings-page-from : (h : Held) (had b : List ℕ) → chipOf (byte b 0) ≡ Is chip → {d : Done} {left was holds : List ℕ}
       → Leaves (outcomeOf Mark.Insert b (h .slot) (take (h .size) had) leastRoom) d had left was holds → d .number ≡ 0 → {ms : List Sent} {held : Held} {later : List ℕ}
       → Sat (d .held) left ms held later
       → let put = insertion (h .slot) (byte b 0) (drop 1 b) in Paging g (put .slot) (put .image) ms (held .slot .page) (held .slot .chosen)
-  sittings-page-from h had b known leaves done sits =
+  sittings-page-from h had b known leaves done {ms} sits =
       let put = insertion (h .slot) (byte b 0) (drop 1 b) in
-      let e = record-accepted h had b leaves done in
-      let q = put-in-slot chip (h .slot) (byte b 0) (drop 1 b) known e in
-      sittings-paging (put .slot) (put .image) (ap (λ (t : Slot). t .holds) q) (ap (λ (t : Slot). t .page) q) (ap (λ (t : Slot). t .chosen) q)
-      (held-slot h had b leaves done) (held-card h had b leaves done) sits
+      let e = sat-run sits (put .slot) (put .image) (held-slot h had b leaves done) (held-card h had b leaves done) .0 in
+      subst⁻¹ (λ (t : Slot). Paging g (put .slot) (put .image) ms (t .page) (t .chosen)) e
+      (page-from (h .slot) (byte b 0) (drop 1 b) known (record-accepted h had b leaves done) ms)
 
 -- ---- which page the last 01 named
 -- none is named, and the page is the one before; one is named and none behind it, and it is that one

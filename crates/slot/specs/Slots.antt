@@ -48,16 +48,17 @@ protectedAs n s = slotted (s .holds) (s .active) (s .selected) (s .page) (s .«o
 abbrev pub chosenAs : Bool → Slot → Slot
 chosenAs c s = slotted (s .holds) (s .active) (s .selected) (s .page) (s .«open») (s .set) (s .tries) (s .protected) c
 
--- "Insertion gives: inactive, no type, page 8, closed"; the default parameters return; tries left and number of protected bytes are those that come;
--- command 01 has not succeeded since
+-- "Insertion gives: inactive, no type, page 8, closed"; the default parameters return; tries left and number of protected bytes are those that come; no
+-- command 01 has succeeded since
 abbrev pub inserted : Chip → ℕ → ℕ → Slot
 inserted chip left n = slotted (Card chip) false 0 8 false defaultSet left n false
 
--- "Removal always gives the empty sound slot"; the default parameters return; "For .. an empty slot both are 0"
+-- "Removal always gives the empty sound slot"; the default parameters return; "For .. an empty slot both are 0"; no
+-- command 01 has succeeded
 abbrev pub removed : Slot
 removed = slotted Empty false 0 8 false defaultSet 0 0 false
 
--- "Power on: active, no type, closed"; "Power off: inactive, no type, closed. Page size survives both"
+-- "Power on: active, no type, closed"; "Power off: inactive, no type, closed. Page size survives both", and so does its flag
 abbrev pub powered : Bool → Slot → Slot
 powered on s = activeAs on (typeAs 0 (openAs false s))
 
