@@ -239,9 +239,16 @@ enum { RULES = sizeof rules / sizeof rules[0] };
 
 static unsigned came[RULES][KINDS + 1][SUBJECTS], beside;
 
+/* The one kind of card that messages are sent to; KINDS is every one. */
+static size_t only_kind = KINDS;
+
+static int is_asked(size_t kind) { return only_kind == KINDS || only_kind == kind; }
+
 static int allows(size_t rule, size_t kind, size_t subject)
 {
     unsigned of;
+    if (subject < INSERTION && !is_asked(kind))
+        return 0;
     /* An unknown kind is put in and nothing else. */
     if (kind == NONE ? subject == INSERTION : kind == KINDS && subject != INSERTION)
         return 0;
@@ -624,6 +631,8 @@ static void every_message(void)
     size_t i;
     for (kind_in = 0; kind_in < KINDS; kind_in++) {
         const struct kind *kind = &kinds[kind_in];
+        if (!is_asked(kind_in))
+            continue;
         for (i = 0; i < (kind->family < BITS_18 ? 1 : sizeof protections); i++) {
             make_card(kept_image, kind, families[kind->family].full, protections[i]);
             on_each_state(kind->family >= BITS_18);
@@ -733,14 +742,25 @@ static int all_reached(void)
     return reached == wanted && beside == 0;
 }
 
+/* A number, or 100000 where there is none. */
+static size_t number_in(const char *digits)
+{
+    size_t number = 0;
+    const char *digit = digits;
+    for (; *digit >= '0' && *digit <= '9' && number < 10000; digit++)
+        number = number * 10 + (size_t)(*digit - '0');
+    return *digit || digit == digits ? 100000 : number;
+}
+
 int main(int argc, char **argv)
 {
-    const char *digit = argc == 2 ? argv[1] : "";
-    size_t limit = 0, i;
-    for (; *digit >= '0' && *digit <= '9' && limit < 100000; digit++)
-        limit = limit * 10 + (size_t)(*digit - '0');
-    if (*digit || limit == 0) {
-        dprintf(2, "usage: stack LIMIT, the most bytes of stack that a call may take\n");
+    size_t limit = argc < 2 ? 100000 : number_in(argv[1]), number = argc < 3 ? 0 : number_in(argv[2]), i;
+    if (argc > 2)
+        for (only_kind = 0; only_kind < KINDS && kinds[only_kind].number != number; only_kind++)
+            continue;
+    if (argc > 3 || limit == 0 || limit == 100000 || (argc > 2 && only_kind == KINDS)) {
+        dprintf(2, "usage: stack LIMIT [KIND], the most bytes of stack that a call may take, and the kind of card, 0 for none, that\n"
+                   "messages are sent to: every one if not given\n");
         return 2;
     }
     for (i = 0; i < WATCHED; i++)
