@@ -42,7 +42,7 @@ unfolding pageSize _or_
 sized32 = refl
 
 -- the page after A4 is one where the page before is
-pub for-sized : (t p : ℕ) → pageSize p ≡ true → pageSize (pageFor t p) ≡ true
+for-sized : (t p : ℕ) → pageSize p ≡ true → pageSize (pageFor t p) ≡ true
 unfolding pageFor
 for-sized t p e = let P : ℕ → Type 0 = λ n. pageSize n ≡ true in either P (t is 2) (λ _. sized32) (λ _. either P (t is 1) (λ _. sized8) (λ _. e))
 
