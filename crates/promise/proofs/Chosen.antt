@@ -12,7 +12,7 @@ use borrow.Author.Tests.{leb-true, ne-eqb}
 use Rattle.words.specs.Choice.{_⇒_⁏_, _and_, _or_, _means_, _is_, _isnt_}
 use Rattle.words.specs.Bytes.{byte, lowFirst}
 use Rattle.words.specs.Bounds.{leastRoom}
-use Rattle.words.proofs.Choices.{either, first, rest, and-true, and-fails, and-holds, means-true, same-choice, or-end}
+use Rattle.words.proofs.Choices.{either, first, rest, and-true, and-fails, and-holds, means-true, same-choice, never, nested, or-end}
 use Rattle.chips.specs.declared.Chip.{Chip}
 use Rattle.chips.specs.declared.Known.the-variants.{Is}
 use Rattle.chips.specs.declared.Facts.{Facts}
@@ -142,11 +142,6 @@ named-step c selects ts = refl
 named-step true (names p) ts = refl
 named-step false (names p) ts = refl
 
-no-turns : (c : Bool) (x y : ℕ) → (not c and false ⇒ x ⁏ y) ≡ y
-unfolding _⇒_⁏_ _and_
-no-turns true x y = refl
-no-turns false x y = refl
-
 -- a run: from any slot with the card in it, any image and any messages
 module _ (chip : Chip) where
   abbrev g : Facts
@@ -154,7 +149,7 @@ module _ (chip : Chip) where
 
   run-page : (s : Slot) (image : List ℕ) (ms : List Sent) → s .holds ≡ Card chip → run s image ms .slot .page ≡ leftBy (g .selects) (s .chosen) (s .page) (turns g s image ms)
   unfolding run turns lastNamed selected
-  run-page s image [] h = sym (no-turns (s .chosen) (pageFor (g .selects) (s .page)) (s .page))
+  run-page s image [] h = sym (never (not (s .chosen)) (pageFor (g .selects) (s .page)) (s .page))
   run-page s image (m ∷ ms) h =
       let o : Outcome = sending s image m in
       let moved = message-moves chip s image m h in
@@ -180,14 +175,8 @@ module _ (chip : Chip) where
   for-new = ap (λ (n : ℕ). g .selects is 2 ⇒ 32 ⁏ n) (same-choice (g .selects is 1) refl)
 
   unnamed-left : (ts : List Turn) → (not false and selected ts ⇒ pageFor (g .selects) 8 ⁏ 8) ≡ unnamed g ts
-  unfolding _⇒_⁏_ _and_
-  unnamed-left ts = ap (λ (n : ℕ). not false and selected ts ⇒ n ⁏ 8) for-new ∙ go (g .selects is 2) (selected ts) 32 8
-    where
-      go : (u b : Bool) (x y : ℕ) → (not false and b ⇒ (u ⇒ x ⁏ y) ⁏ y) ≡ (u and b ⇒ x ⁏ y)
-      go true true x y = refl
-      go true false x y = refl
-      go false true x y = refl
-      go false false x y = refl
+  unfolding _and_
+  unnamed-left ts = ap (λ (n : ℕ). not false and selected ts ⇒ n ⁏ 8) for-new ∙ nested (g .selects is 2) (selected ts) 32 8
 
   module _ (s : Slot) (image : List ℕ) (holds : s .holds ≡ Card chip) (new : s .page ≡ 8) (unset : s .chosen ≡ false) where
     run-paging : (ms : List Sent) → Paging g s image ms (run s image ms .slot .page) (run s image ms .slot .chosen)

@@ -17,15 +17,16 @@ use Rattle.vectors.specs.Plain.{command}
 use Rattle.promise.specs.Tries.{runFrom}
 use Rattle.promise.specs.Sequences.{Called}
 use Rattle.promise.specs.Stored.{sentBy}
-use Rattle.promise.specs.Visits.{powerOn, select}
+use Rattle.promise.specs.Visits.{powerOn, select, setPage}
 use Rattle.promise.specs.Chosen.{turnOf, turns, selected, named, Paging, pageShown, chosenShown}
-use Rattle.promise.specs.PageVisits.{samePages, asPaged, unpaged, pageTo, pageVisits}
+use Rattle.promise.specs.Screens.{sameLines, asShown, unshown}
+use Rattle.promise.specs.PageVisits.{pageVisits}
 use Rattle.promise.proofs.Visits.{call-put4442}
 use Rattle.promise.proofs.Chosen.{page-from, calls-page-from, page-named, page-unnamed, unnamed-range}
 
 -- every row of the table
-pub visits-paged : unpaged 1 pageVisits ≡ 0
-unfolding rules lent image4442 transfer samePages asPaged unpaged pageVisits
+pub visits-paged : unshown 1 pageVisits ≡ 0
+unfolding rules lent image4442 transfer sameLines asShown unshown pageVisits
 visits-paged = refl
 
 -- a large card is put in: whatever is sent then, page and flag are what the theorem says
@@ -61,7 +62,7 @@ unfolding rules lent transfer turnOf turns named heard
 wrote-forty = unnamed-range I2c32 removed 6 blank32 refl refl readied forty 16 refl (record { isHeard = refl; asked = refl; ends = refl }) (omega arith)
 
 -- 04h and A4 behind them: the page is the one that 04h named
-pub named-16 : runFrom removed 6 blank32 (readied ++ lent (pageTo 0x04 ∷ select 0x02 ∷ [])) .slot .page ≡ 16
+pub named-16 : runFrom removed 6 blank32 (readied ++ lent (setPage 0x04 ∷ select 0x02 ∷ [])) .slot .page ≡ 16
 unfolding rules lent transfer turnOf turns named heard
-named-16 = page-named (facts I2c32) (inserted I2c32 0 0) blank32 readied (record { message = pageTo 0x04; room = leastRoom }) (lent (select 0x02 ∷ []))
-    (paging32 (readied ++ lent (pageTo 0x04 ∷ select 0x02 ∷ []))) 16 refl refl
+named-16 = page-named (facts I2c32) (inserted I2c32 0 0) blank32 readied (record { message = setPage 0x04; room = leastRoom }) (lent (select 0x02 ∷ []))
+    (paging32 (readied ++ lent (setPage 0x04 ∷ select 0x02 ∷ []))) 16 refl refl

@@ -17,28 +17,25 @@ use Rattle.vectors.specs.Plain.{guarded4418, image4432, command}
 use Rattle.promise.specs.Visits.{powerOn, select, wrong4428, right4428, change4442}
 use Rattle.promise.specs.Guarded.{unknownType, nineBytes}
 
--- a line of the screen
-pub record Line : Type 0 where
-  pub tries : ℕ
-  pub protected : ℕ
-
-abbrev pub line : ℕ → ℕ → Line
-line t p = record { tries = t; protected = p }
-
+-- a card, the messages sent, and a test of the slot record for the insertion and for every message
 pub record Screen : Type 0 where
   pub chip : Chip
   pub image : List ℕ
   pub messages : List (List ℕ)
-  pub lines : List Line
+  pub lines : List (Slot → Bool)
+
+-- a line of the screen: the record has these counts
+abbrev pub line : ℕ → ℕ → Slot → Bool
+line t p s = s .tries is t and s .protected is p
 
 -- ---- when a row is as said
-unfoldable pub sameLines : List Slot → List Line → Bool
+unfoldable pub sameLines : List Slot → List (Slot → Bool) → Bool
 sameLines [] [] = true
 sameLines [] (l ∷ ls) = false
 sameLines (s ∷ ss) [] = false
-sameLines (s ∷ ss) (l ∷ ls) = s .tries is l .tries and s .protected is l .protected and sameLines ss ls
+sameLines (s ∷ ss) (l ∷ ls) = l s and sameLines ss ls
 
--- the insertion is accepted, and the record says what the screen shows
+-- the insertion is accepted, and the record passes every test in its turn
 unfoldable pub asShown : Screen → Bool
 asShown v =
     let f = facts (v .chip) in

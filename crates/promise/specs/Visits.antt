@@ -55,12 +55,15 @@ unlike k [] = 0
 unlike k (v ∷ vs) = let later = unlike (k + 1) vs in asSaid v ⇒ later ⁏ k
 
 -- ---- the words of the table
--- 62h, and A4 with a type
+-- 62h, A4 with a type, and 01 with a value
 abbrev pub powerOn : List ℕ
 powerOn = 0x62 ∷ 0 ∷ 0 ∷ 0 ∷ 0 ∷ 0 ∷ 0 ∷ 0 ∷ 0 ∷ 0 ∷ []
 
 abbrev pub select : ℕ → List ℕ
 select type = transfer (0xFF ∷ 0xA4 ∷ 0x00 ∷ 0x00 ∷ 0x01 ∷ type ∷ [])
+
+abbrev pub setPage : ℕ → List ℕ
+setPage v = transfer (0xFF ∷ 0x01 ∷ 0x00 ∷ 0x00 ∷ 0x01 ∷ v ∷ [])
 
 -- a wrong and the right code of the SLE4428 of the sessions
 abbrev pub wrong4428 : List ℕ

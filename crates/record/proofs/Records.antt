@@ -8,13 +8,13 @@ use lib.ListN.{length, take, drop, replicate, length-drop, take-append-drop}
 use lib.Seq.{drop-cons}
 use lib.Dec.{ltb}
 use borrow.Author.Tests.{eqb-true, eq-eqb, ne-eqb}
-use Rattle.words.specs.Choice.{_⇒_⁏_, _and_, _is_}
+use Rattle.words.specs.Choice.{_and_, _is_}
 use Rattle.words.specs.Bytes.{AllBytes, byte, blank, fourAt, eightAt, lowFirst, series}
 use Rattle.words.proofs.Numbers.{eight-back, series-bytes, eight-number, low-number}
 use Rattle.words.proofs.Lists.{length-series, series-part}
 use Rattle.words.proofs.Choices.{first, rest, passed, either, and-true}
 use Rattle.chips.specs.declared.Known.{Known}
-use Rattle.chips.specs.Kinds.{facts, chipOf}
+use Rattle.chips.specs.Kinds.{chipOf}
 use Rattle.chips.proofs.Each.{known-kind, kind-of-found}
 use Rattle.chips.proofs.KindLaws.{laid}
 use Rattle.slot.specs.declared.Slot.{Slot}

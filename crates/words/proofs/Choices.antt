@@ -61,6 +61,14 @@ unfolding _and_ _⇒_⁏_
 never true x y = refl
 never false x y = refl
 
+-- A choice within a choice by its first branch, with one second branch, is one by both tests.
+pub nested : {A : Type 0} (a b : Bool) (x y : A) → (b ⇒ (a ⇒ x ⁏ y) ⁏ y) ≡ (a and b ⇒ x ⁏ y)
+unfolding _⇒_⁏_ _and_
+nested true true x y = refl
+nested true false x y = refl
+nested false true x y = refl
+nested false false x y = refl
+
 -- Tests taken apart.
 pub and-true : (a b : Bool) → a and b ≡ true → (a ≡ true) × (b ≡ true)
 unfolding _and_

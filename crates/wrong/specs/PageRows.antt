@@ -9,17 +9,14 @@ use Rattle.slot.specs.Slots.{removed, pageAs, chosenAs, paged}
 use Rattle.vectors.specs.Sessions.{fresh, right4442}
 use Rattle.vectors.specs.Plain.{image4418, image4432}
 use Rattle.vectors.specs.Parameters.{setting}
-use Rattle.promise.specs.Visits.{select}
+use Rattle.promise.specs.Visits.{select, setPage}
 use Rattle.wrong.specs.Wrong.{commanding}
 use Rattle.wrong.specs.Caught.{Witness, byInsertion, byRemoval, bySeat}
 use Rattle.wrong.specs.Inputs.{bare, shut, wide, mem4442, mem4428, memI2c, plain, ask, on}
 use Rattle.wrong.specs.ParamRows.{good1}
 use Rattle.wrong.specs.WrongPages as pages
 
--- 01 with a value; the I2C card of 1 kbit with page 16 chosen; an open SLE4442 whose record says chosen, too; an I2C card of 32 kbit, all FFh
-abbrev pub sized : ℕ → List ℕ
-sized v = ask 0x01 0x00 0x00 0x01 (v ∷ [])
-
+-- the I2C card of 1 kbit with page 16 chosen; an open SLE4442 whose record says chosen, too; an I2C card of 32 kbit, all FFh
 abbrev pub chosenI2c : Slot
 chosenI2c = paged 16 (shut I2c1)
 
@@ -63,18 +60,18 @@ defaultRows =
     ∷ bySeat pages.firstSelectOnly I2c32 false 8 (select 0x02)
     ∷ bySeat pages.refusedSelects I2c32 false 8 (select 0x01)
     ∷ bySeat pages.refusedSelects I2c1 false 16 (select 0x02)
-    ∷ bySeat pages.pageUnflagged I2c1 false 8 (sized 0x04)
-    ∷ bySeat pages.pageUnflagged I2c32 false 32 (sized 0x03)
-    ∷ bySeat pages.eightUnflagged I2c1 false 8 (sized 0x03)
-    ∷ bySeat pages.eightUnflagged I2c32 false 32 (sized 0x03)
-    ∷ bySeat pages.sameUnflagged I2c1 false 8 (sized 0x03)
-    ∷ bySeat pages.sameUnflagged I2c32 false 32 (sized 0x05)
-    ∷ bySeat pages.refusedFlags I2c1 false 8 (sized 0x02)
-    ∷ bySeat pages.refusedFlags I2c32 false 32 (sized 0x08)
+    ∷ bySeat pages.pageUnflagged I2c1 false 8 (setPage 0x04)
+    ∷ bySeat pages.pageUnflagged I2c32 false 32 (setPage 0x03)
+    ∷ bySeat pages.eightUnflagged I2c1 false 8 (setPage 0x03)
+    ∷ bySeat pages.eightUnflagged I2c32 false 32 (setPage 0x03)
+    ∷ bySeat pages.sameUnflagged I2c1 false 8 (setPage 0x03)
+    ∷ bySeat pages.sameUnflagged I2c32 false 32 (setPage 0x05)
+    ∷ bySeat pages.refusedFlags I2c1 false 8 (setPage 0x02)
+    ∷ bySeat pages.refusedFlags I2c32 false 32 (setPage 0x08)
     ∷ bySeat pages.refusedFlags I2c1 false 8 (ask 0x01 0x00 0x00 0x02 (0x03 ∷ 0x03 ∷ []))
     ∷ bySeat pages.refusedFlags I2c1 false 8 (ask 0x01 0x00 0x01 0x01 (0x03 ∷ []))
-    ∷ on (commanding pages.refusedFlags) (bare I2c1) memI2c (sized 0x03)
-    ∷ on (commanding pages.refusedFlags) (shut Sle4442) mem4442 (sized 0x03)
+    ∷ on (commanding pages.refusedFlags) (bare I2c1) memI2c (setPage 0x03)
+    ∷ on (commanding pages.refusedFlags) (shut Sle4442) mem4442 (setPage 0x03)
     ∷ on (pages.typeFlags false 0x62) chosenI2c memI2c (plain 0x62)
     ∷ on (pages.typeFlags true 0x62) (shut I2c1) memI2c (plain 0x62)
     ∷ on (pages.typeFlags false 0x63) chosenI2c memI2c (plain 0x63)
@@ -103,7 +100,7 @@ defaultRows =
     ∷ on (pages.commandFlags true 0xD2) (wide Sle4442) mem4442 (ask 0xD2 0x00 0x01 0x03 (0x01 ∷ 0x02 ∷ 0x03 ∷ []))
     ∷ on (pages.commandFlags false 0x20) chosen4442 mem4442 right4442
     ∷ on (pages.commandFlags true 0x20) (wide Sle4442) mem4442 right4442
-    ∷ on pages.refusalClears chosenI2c memI2c (sized 0x02)
+    ∷ on pages.refusalClears chosenI2c memI2c (setPage 0x02)
     ∷ on pages.refusalClears chosenI2c memI2c (select 0x02)
     ∷ on pages.failureClears chosenI2c memI2c (plain 0x69)
     ∷ on pages.downClears chosenI2c memI2c []

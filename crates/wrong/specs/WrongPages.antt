@@ -1,7 +1,6 @@
 -- Wrong readers of the page that goes by the card's type, and of the flag that says that command 01 has succeeded since insertion.
 use Prim.Native.Nat.{ℕ}
 use mathlib.Core.Bool.{Bool, true, false, not}
-use mathlib.Core.List.{List}
 use Rattle.words.specs.Choice.{_⇒_⁏_, _and_, _or_, _means_, _is_, _isnt_}
 use Rattle.words.specs.Bytes.{byte}
 use Rattle.slot.specs.declared.Slot.{Slot}

@@ -26,10 +26,10 @@ use Rattle.reader.specs.Fronts.{frontOf}
 use Rattle.calls.specs.Calls.{RawOutcome, rawDown, rawServed, rawExchange, rawInsertion, rawRemoval, RawGives, resultOf}
 use Rattle.vectors.specs.Sessions.{recounted, fresh, image4442, wrong4442}
 use Rattle.vectors.specs.Plain.{image4418}
-use Rattle.promise.specs.Visits.{select}
+use Rattle.promise.specs.Visits.{select, setPage}
 use Rattle.wrong.specs.ParamRows.{good1, stored}
 use Rattle.wrong.specs.CountRows.{kept255}
-use Rattle.wrong.specs.PageRows.{sized, chosenI2c}
+use Rattle.wrong.specs.PageRows.{chosenI2c}
 use Rattle.wrong.specs.Inputs.{bare, shut, wide, mem4442, kept4442, memI2c, plain, ask}
 
 -- ---- what a reader of a raw record is: of a message (record, image, message, length of the answer buffer), of an insertion, of a removal; and
@@ -425,8 +425,8 @@ wrongRecords =
     ∷ byRawMessage rawFlagForOpen (rawOf (recounted mem4442 (wide Sle4442))) mem4442 (plain 0x65)
     ∷ byRawMessage rawRestFrom18 (set cardRecord 17 0x01) mem4442 (plain 0x65)
     ∷ byRawMessage rawFlagFirst (set cardRecord 16 0x02) (image4442 0x08) (plain 0x65)
-    ∷ byRawMessage rawFlagStays (rawOf (shut I2c1)) memI2c (sized 0x04)
-    ∷ byRawMessage rawFlagFF (rawOf (shut I2c1)) memI2c (sized 0x04)
+    ∷ byRawMessage rawFlagStays (rawOf (shut I2c1)) memI2c (setPage 0x04)
+    ∷ byRawMessage rawFlagFF (rawOf (shut I2c1)) memI2c (setPage 0x04)
     ∷ byRawMessage rawPageStays (rawOf (pageAs 16 (bare I2c1))) memI2c (select 0x01)
     ∷ byRawInsertion rawInsertKeepsFlag (set emptyRecord 16 0x01) 1 memI2c
     ∷ byRawRemoval rawRemovalKeepsFlag chosenRecord

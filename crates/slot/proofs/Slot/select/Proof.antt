@@ -1,6 +1,6 @@
 -- `select` meets its contract: the page is the rule's, and two fields more are changed.
 use borrow.Author.Needs.{needs}
-use mathlib.Core.Path.{ap, _∙_}
+use mathlib.Core.Path.{ap}
 use Prim.Native.Nat.{ℕ}
 use mathlib.Core.Bool.{false}
 use Rattle.slot.specs.Slots.{pageAs, openAs, typeAs}
