@@ -8,18 +8,17 @@
 // A row is a state and a message, or a card that is put in. Before a call the record and what the call
 // changes of the image are put back, so that every call does the same. The same loop around a function
 // that does nothing is taken off.
+#define _DEFAULT_SOURCE
 #include "card_reader.h"
 #include "plain.h"
 
+#include <signal.h>
 #include <stdio.h>
 #include <string.h>
+#include <sys/ptrace.h>
+#include <sys/wait.h>
 #include <time.h>
-
-long write(int file, const void *bytes, size_t count);
-int fork(void);
-int waitpid(int child, int *status, int options);
-long ptrace(int request, ...);
-void _exit(int status);
+#include <unistd.h>
 
 typedef int32_t message_call(uint8_t *, size_t, uint8_t *, size_t, const uint8_t *, size_t, uint8_t *, size_t);
 typedef int32_t insert_call(uint8_t *, size_t, uint8_t, const uint8_t *, size_t);
@@ -125,7 +124,7 @@ static unsigned protected_bytes(uint8_t kind) {
 // type 01h, while to one of type 02h command 01 was sent with 03h first.
 static struct row *add(const char *name, uint8_t kind, uint8_t type, size_t n) {
     if (row_count == ROWS) {
-        dprintf(2, "bench: there are more than %d rows\n", ROWS);
+        fprintf(stderr, "bench: there are more than %d rows\n", ROWS);
         _exit(2);
     }
     struct row *row = &rows[row_count++];
@@ -501,7 +500,7 @@ static int both_agree(void) {
         memset(answer, 0x5a, sizeof answer);
         int32_t result = call_once(call_of(&rows[i], LIBRARY), &rows[i]);
         if (!is_as_named(&rows[i], result)) {
-            dprintf(2, "bench: not what it says, the library returns %d: %s, %s\n", (int)result, rows[i].name,
+            fprintf(stderr, "bench: not what it says, the library returns %d: %s, %s\n", (int)result, rows[i].name,
                     card_of(rows[i].kind));
             return 0;
         }
@@ -512,7 +511,7 @@ static int both_agree(void) {
         memset(answer, 0x5a, sizeof answer);
         if (call_once(call_of(&rows[i], PLAIN), &rows[i]) != result || memcmp(seen_record, record, sizeof record) ||
             memcmp(seen_image, image, seen) || memcmp(seen_answer, answer, sizeof answer)) {
-            dprintf(2, "bench: the readers differ: %s, %s\n", rows[i].name, card_of(rows[i].kind));
+            fprintf(stderr, "bench: the readers differ: %s, %s\n", rows[i].name, card_of(rows[i].kind));
             return 0;
         }
     }
@@ -543,7 +542,7 @@ static int both_agree_on_cards(void) {
             for (size_t length = 31; length <= 32; length++)
                 for (uint8_t in = 0; in < 2; in++)
                     if (!both_agree_on(in, (uint8_t)fill, length, kinds[i])) {
-                        dprintf(2, "bench: the readers differ: a card in and out, %s\n", card_of(kinds[i]));
+                        fprintf(stderr, "bench: the readers differ: a card in and out, %s\n", card_of(kinds[i]));
                         return 0;
                     }
     return 1;
@@ -564,6 +563,7 @@ static void mark(size_t row, char who) {
 __attribute__((noinline)) static void marked(size_t at, char who, message_call *call) {
     mark(at, who);
     run(call, &rows[at], CALLS);
+    mark(at, 'x');
 }
 
 static void count(unsigned rounds) {
@@ -575,14 +575,13 @@ static void count(unsigned rounds) {
             marked(i, 'e', call_of(row, EMPTY));
             marked(i, 'l', call_of(row, LIBRARY));
             marked(i, 'c', call_of(row, PLAIN));
-            marked(i, 'x', call_of(row, EMPTY));
         }
     }
 }
 
 // ---- instructions, one by one: a child makes the calls, and its parent steps through them
 
-enum { TRACE_ME = 0, PEEK_USER = 3, CONTINUE = 7, SINGLE_STEP = 9, PLACE_OF_RIP = 128, STOPPED = 0x7f, TRAP = 5 };
+enum { PLACE_OF_RIP = 128 };
 
 __attribute__((noinline)) static void region_end(void) { __asm__ volatile(""); }
 
@@ -593,27 +592,27 @@ __attribute__((noinline)) static void region(message_call *call, const struct ro
 }
 
 // Lets the child go on; whether it stopped at a trap.
-static int goes(int child, int request) {
+static int goes(pid_t child, enum __ptrace_request request) {
     int status = 0;
     ptrace(request, child, 0L, 0L);
-    return waitpid(child, &status, 0) == child && (status & 0xff) == STOPPED && status >> 8 == TRAP;
+    return waitpid(child, &status, 0) == child && WIFSTOPPED(status) && WSTOPSIG(status) == SIGTRAP;
 }
 
 // The instructions of the child's next region, or 0 where it broke off.
-static double region_steps(int child) {
+static double region_steps(pid_t child) {
     double steps = 0;
-    if (!goes(child, CONTINUE))
+    if (!goes(child, PTRACE_CONT))
         return 0;
     do {
-        if (!goes(child, SINGLE_STEP))
+        if (!goes(child, PTRACE_SINGLESTEP))
             return 0;
         steps++;
-    } while ((uintptr_t)ptrace(PEEK_USER, child, (long)PLACE_OF_RIP, 0L) != (uintptr_t)region_end);
+    } while ((uintptr_t)ptrace(PTRACE_PEEKUSER, child, (long)PLACE_OF_RIP, 0L) != (uintptr_t)region_end);
     return steps;
 }
 
 static void make_regions(void) {
-    ptrace(TRACE_ME, 0, 0L, 0L);
+    ptrace(PTRACE_TRACEME, 0, 0L, 0L);
     for (size_t i = 0; i < row_count; i++) {
         make_card(rows[i].kind, rows[i].bits);
         region(call_of(&rows[i], EMPTY), &rows[i]);
@@ -625,20 +624,20 @@ static void make_regions(void) {
 
 // Number, row, card, instructions of the library and of C, and the ratio thrice, as time_rows has it.
 static int step_rows(void) {
-    int child = fork();
+    pid_t child = fork();
     if (child == 0)
         make_regions();
     for (size_t i = 0; i < row_count; i++) {
         double none = region_steps(child), ours = region_steps(child) - none, theirs = region_steps(child) - none;
         if (none <= 0 || ours <= 0 || theirs <= 0) {
-            dprintf(2, "bench: the child could not be stepped through\n");
+            fprintf(stderr, "bench: the child could not be stepped through\n");
             return 1;
         }
         double ratio = ours / theirs;
         printf("%03u\t%s\t%s\t%.1f\t%.1f\t%.3f\t%.3f\t%.3f\n", (unsigned)i, rows[i].name, card_of(rows[i].kind),
                ours / CALLS, theirs / CALLS, ratio, ratio, ratio);
     }
-    ptrace(CONTINUE, child, 0L, 0L);
+    ptrace(PTRACE_CONT, child, 0L, 0L);
     waitpid(child, NULL, 0);
     return 0;
 }
@@ -711,7 +710,7 @@ int main(int argc, char **argv) {
     else if (argc == 2 && !strcmp(argv[1], "steps"))
         return step_rows();
     else {
-        dprintf(2, "usage: bench agree | time ROUNDS | count ROUNDS | steps\n");
+        fprintf(stderr, "usage: bench agree | time ROUNDS | count ROUNDS | steps\n");
         return 2;
     }
     return 0;

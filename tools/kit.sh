@@ -65,22 +65,40 @@ need_library() {
     fi
 }
 
-# compile OBJECT SOURCE WORDS..: C99 for x86-64, with the kit's clang. The kit has the C library without its headers;
-# tools/libc has what is used of them.
+# need_packages PACKAGE..: Debian's packages of these names, installed where they are missing.
+need_packages() { tools/packages "$@" || die "$* are needed"; }
+
+# Finds a compiler of C for x86-64, and installs it where there is none: cc, on x86-64 the machine's own gcc, on another
+# processor Debian's cross compiler; with the C library and its headers.
+find_cc() {
+    if [ "$(uname -m)" = x86_64 ]; then
+        cc=gcc
+        set -- gcc libc6-dev
+    else
+        cc=x86_64-linux-gnu-gcc
+        set -- gcc-x86-64-linux-gnu libc6-dev-amd64-cross
+    fi
+    echo '#include <stdlib.h>' | "$cc" -E -x c - >/dev/null 2>&1 || need_packages "$@"
+}
+
+# compile OBJECT SOURCE WORDS..: C99 for x86-64.
 compile() {
     made=$1 source=$2
     shift 2
-    "$tools/bin/clang" --target=x86_64-unknown-linux-gnu -std=c99 -O2 -fPIE -Wall -Wextra -Wpedantic -Werror \
-        -nostdinc -isystem tools/libc -Iinclude "$@" -c -o "$made" "$source" || die "$source was not compiled"
+    "$cc" -std=c99 -O2 -Wall -Wextra -Wpedantic -Werror -Iinclude "$@" -c -o "$made" "$source" || die "$source was not compiled"
 }
 
-# link PROGRAM FILE..: an x86-64 program that tools/run-x86 runs. It is put in its place when it is whole, so that two
-# builds at a time do no harm.
+# The words that hand the headers of cc to another compiler.
+headers() {
+    printf '%s ' -nostdinc
+    "$cc" -E -Wp,-v -x c /dev/null 2>&1 >/dev/null | sed -n '/^#include </,/^End/s/^ /-isystem /p' | tr '\n' ' '
+}
+
+# link PROGRAM FILE..: an x86-64 program with its C library in it, which tools/run-x86 runs. It is put in its place when it
+# is whole, so that two builds at a time do no harm.
 link() {
     made=$1
     shift
-    "$own/bin/rattle-link" --target x86_64-unknown-linux-gnu --toolchain "$tools" -o "$made.$$" "$@" 2>"$made.log.$$" ||
-        { cat "$made.log.$$" >&2; rm -f "$made.$$" "$made.log.$$"; die "$made was not linked"; }
-    rm -f "$made.log.$$"
+    "$cc" -static -o "$made.$$" "$@" || { rm -f "$made.$$"; die "$made was not linked"; }
     mv "$made.$$" "$made"
 }

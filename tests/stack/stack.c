@@ -759,7 +759,7 @@ int main(int argc, char **argv)
         for (only_kind = 0; only_kind < KINDS && kinds[only_kind].number != number; only_kind++)
             continue;
     if (argc > 3 || limit == 0 || limit == 100000 || (argc > 2 && only_kind == KINDS)) {
-        dprintf(2, "usage: stack LIMIT [KIND], the most bytes of stack that a call may take, and the kind of card, 0 for none, that\n"
+        fprintf(stderr, "usage: stack LIMIT [KIND], the most bytes of stack that a call may take, and the kind of card, 0 for none, that\n"
                    "messages are sent to: every one if not given\n");
         return 2;
     }
