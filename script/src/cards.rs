@@ -92,6 +92,11 @@ static KINDS: [Kind; 15] = [
     },
 ];
 
+/// All cards.
+pub fn all() -> &'static [Kind] {
+    &KINDS
+}
+
 /// The card of a name.
 pub fn named(name: &str) -> Option<&'static Kind> {
     KINDS.iter().find(|kind| kind.name == name)

@@ -51,6 +51,12 @@ pub enum Expected {
 }
 
 impl Record {
+    /// The insertion of a card, whatever its image.
+    pub fn insertion(over: Over, kind: u8, image: &[u8]) -> Record {
+        let told = format!("{}, image of {} bytes", told_kind(over, kind), image.len());
+        Record::Insert { told, body: [&[kind], image].concat() }
+    }
+
     /// The message, where it is one.
     pub fn message(&self) -> &[u8] {
         match self {
@@ -71,6 +77,20 @@ impl Record {
         bytes.extend_from_slice(&(body.len() as u16).to_le_bytes());
         bytes.extend_from_slice(body);
         bytes
+    }
+}
+
+/// The card of a kind's number, where the program that is talked to knows it.
+fn known(over: Over, kind: u8) -> Option<&'static Kind> {
+    cards::numbered(kind).filter(|card| over == Over::Trial || card.fits_a_record())
+}
+
+/// A kind in words.
+fn told_kind(over: Over, kind: u8) -> String {
+    match (known(over, kind), cards::numbered(kind)) {
+        (Some(card), _) => format!("{}, kind {}", card.told, kind),
+        (None, Some(_)) => format!("kind {}, which the session program takes as unknown", kind),
+        (None, None) => format!("kind {}, which is unknown", kind),
     }
 }
 
@@ -230,7 +250,7 @@ impl Parser {
             }
             [name, rest @ ..] => {
                 let card = cards::named(name).ok_or_else(|| format!("'{}' is no card", name))?;
-                if !self.takes(card) {
+                if known(self.over, card.number).is_none() {
                     return Err(format!(
                         "'{}' is played with './play --trial': the session program takes kind {} as unknown, \
                          since a record's body holds at most 32,769 bytes, a kind byte and an image of 32,768",
@@ -240,31 +260,18 @@ impl Parser {
                 (card.number, rest)
             }
         };
-        let known = cards::numbered(kind);
-        let (told, image) = match known {
-            Some(card) if self.takes(card) => {
+        let image = match known(self.over, kind) {
+            Some(card) => {
                 self.own_type = Some(card.own_type);
-                (format!("{}, kind {}", card.told, kind), card_image(card, rest)?)
+                card_image(card, rest)?
             }
-            _ => {
-                let why = if known.is_some() { "the session program takes as" } else { "is" };
-                let told = format!("kind {}, which {} unknown", kind, why);
-                let image = unknown_image(&told, rest)?;
-                (told, image)
-            }
+            None => unknown_image(&told_kind(self.over, kind), rest)?,
         };
-        let told = format!("{}, image of {} bytes", told, image.len());
-        let body = [&[kind], &image[..]].concat();
         match self.over {
-            Over::Session => at_most("a record holds", 65_535, &body)?,
+            Over::Session => at_most("a record holds", 65_535, &[&[kind], &image[..]].concat())?,
             Over::Trial => at_most("the trial program takes an image of", trial::MOST_IMAGE, &image)?,
         }
-        Ok(Record::Insert { told, body })
-    }
-
-    /// Whether the program that is talked to knows this card.
-    fn takes(&self, card: &Kind) -> bool {
-        self.over == Over::Trial || card.fits_a_record()
+        Ok(Record::insertion(self.over, kind, &image))
     }
 }
 

@@ -15,6 +15,11 @@ pub fn row(bytes: &[u8]) -> String {
     }
 }
 
+/// A part of what is told, on a line of its own.
+pub fn line(name: &str, text: &str) -> String {
+    format!("        {:<8}{}", name, text)
+}
+
 /// What a message is: its type, its header where there is something to say, and its command.
 pub fn message(kind: u8, message: &[u8]) -> String {
     if message.len() < 10 {
@@ -30,6 +35,19 @@ pub fn message(kind: u8, message: &[u8]) -> String {
         0x6f => "transfer",
         _ => "an unsupported type",
     };
+    let mut text = told_start(name, message);
+    match message[0] {
+        0x61 => text.push_str(&format!(", protocol number {:02X}, {}", message[7], counted(&message[10..]))),
+        0x6f => text.push_str(&format!(", {}", command(kind, &message[10..]))),
+        // The others have no data; some that came all the same are told.
+        _ if message.len() > 10 => text.push_str(&format!(", {}", counted(&message[10..]))),
+        _ => {}
+    }
+    text
+}
+
+/// The header of a message, with what is odd in it.
+fn told_start(name: &str, message: &[u8]) -> String {
     let mut text = format!("{:02X} {}, bSlot {:02X}, bSeq {:02X}", message[0], name, message[5], message[6]);
     let said = u32::from_le_bytes([message[1], message[2], message[3], message[4]]) as usize;
     if said != message.len() - 10 {
@@ -40,12 +58,23 @@ pub fn message(kind: u8, message: &[u8]) -> String {
     if message[from..10].iter().any(|&byte| byte != 0) {
         text.push_str(&format!(", bytes {} to 9 {}", from, row(&message[from..10])));
     }
-    match message[0] {
-        0x61 => text.push_str(&format!(", protocol number {:02X}, {}", message[7], counted(&message[10..]))),
-        0x6f => text.push_str(&format!(", {}", command(kind, &message[10..]))),
-        _ => {}
-    }
     text
+}
+
+/// An escape message and its answer, 6Bh and 83h, which are not the reader's; of 10 bytes or more both.
+pub fn escape(message: &[u8], answer: &[u8]) -> Vec<(&'static str, String)> {
+    let sent = format!("{}, {}", told_start("escape", message), counted(&message[10..]));
+    let mut parts = vec![("sent", sent), ("answer", told_answer("escape", answer)), ("status", told_status(answer))];
+    let data = &answer[10..];
+    if !data.is_empty() {
+        let text = match std::str::from_utf8(data) {
+            Ok(text) if text.bytes().all(|byte| (0x20..0x7f).contains(&byte)) => format!(", \"{}\"", text),
+            _ => String::new(),
+        };
+        parts.push(("data", format!("{}{}", row(data), text)));
+    }
+    parts.push(("device", "answered this itself: the reader was not asked".to_string()));
+    parts
 }
 
 /// The parameter set that a 61h brings, field by field.
@@ -84,13 +113,17 @@ fn command(kind: u8, apdu: &[u8]) -> String {
         return format!("no command: {}", row(apdu));
     }
     let top = 0x10000 + place;
+    // Bytes behind a read, which has no data.
+    let surplus = if data.is_empty() { String::new() } else { format!(", then {}", counted(data)) };
     match apdu[1] {
         0xa4 => format!("A4 select type {}", row(data)),
         0x01 => format!("01 set the reader page, code {}", row(data)),
-        0xb0 => format!("B0 read {} from {}", bytes_of(p3.into()), address(kind, place)),
-        0xb1 if has_top_bit(kind) => format!("B1 read {} from {}", bytes_of(p3.into()), address(kind, top)),
-        0xb1 => "B1 read the counter".to_string(),
-        0xb2 => format!("B2 read {} of protection bits from {:04X}", bytes_of(p3.into()), place),
+        0xb0 => format!("B0 read {} from {}{}", bytes_of(p3.into()), address(kind, place), surplus),
+        0xb1 if has_top_bit(kind) => {
+            format!("B1 read {} from {}{}", bytes_of(p3.into()), address(kind, top), surplus)
+        }
+        0xb1 => format!("B1 read the counter{}", surplus),
+        0xb2 => format!("B2 read {} of protection bits from {:04X}{}", bytes_of(p3.into()), place, surplus),
         0xd0 => format!("D0 write {} at {}", row(data), address(kind, place)),
         0xd1 if has_top_bit(kind) => format!("D1 write {} at {}", row(data), address(kind, top)),
         0xd1 => format!("D1 protect {} at {:04X}", row(data), place),
@@ -148,14 +181,19 @@ pub fn answer(kind: u8, message: &[u8], answer: &[u8]) -> Vec<(&'static str, Str
 
 /// The header of an answer but for status and error.
 fn told_header(answer: &[u8]) -> String {
-    let kind = match answer[0] {
+    let name = match answer[0] {
         0x80 => "data block",
         0x81 => "slot status",
         0x82 => "parameters",
         _ => "no answer type of the paper",
     };
+    told_answer(name, answer)
+}
+
+/// The same of an answer whose type has this name.
+fn told_answer(name: &str, answer: &[u8]) -> String {
     let said = u32::from_le_bytes([answer[1], answer[2], answer[3], answer[4]]) as usize;
-    let mut text = format!("{:02X} {}, bSlot {:02X}, bSeq {:02X}", answer[0], kind, answer[5], answer[6]);
+    let mut text = format!("{:02X} {}, bSlot {:02X}, bSeq {:02X}", answer[0], name, answer[5], answer[6]);
     if said != answer.len() - 10 {
         text.push_str(&format!(", dwLength {} where {} bytes came", said, answer.len() - 10));
     }

@@ -22,7 +22,32 @@ pub struct Kept {
     image: Vec<u8>,
 }
 
+/// What a call gave: its number, the answer, the slot record afterwards and each image byte that changed.
+pub struct Given {
+    pub number: u8,
+    pub answer: Vec<u8>,
+    pub record: [u8; 32],
+    pub changes: Vec<(usize, u8)>,
+}
+
+/// The image bytes that changed, each as ADDRESS=VALUE in hex.
+pub fn changes<'a>(words: impl Iterator<Item = &'a str>) -> Option<Vec<(usize, u8)>> {
+    let change = |word: &str| {
+        let (place, value) = word.split_once('=')?;
+        let [value]: [u8; 1] = hex::bytes(value)?.try_into().ok()?;
+        Some((usize::from_str_radix(place, 16).ok()?, value))
+    };
+    words.map(change).collect()
+}
+
 impl Kept {
+    /// An empty slot, where no removal has made it. Its parameter set is zeros, which is never told.
+    pub fn empty() -> Kept {
+        let mut record = [0; 32];
+        record[3] = 8;
+        Kept { record, image: Vec::new() }
+    }
+
     /// The case of a script's record: the call, the slot record, the buffer's length and fill, the message's
     /// and the image's length, and both of these. The parser has kept out what is no call or over a limit.
     pub fn case(&self, record: &Record) -> Vec<u8> {
@@ -55,17 +80,20 @@ impl Kept {
 
     /// Takes record and image from the line of a record's case, or nothing where it is no such line.
     pub fn take(&mut self, record: &Record, line: &str) -> Option<Heard> {
-        let mut image = self.lent(record).to_vec();
         let mut words = line.split(' ');
         let number = words.next()?.parse::<u8>().ok()?;
         let length = words.next()?.parse::<usize>().ok()?;
         let next: [u8; 32] = hex::bytes(words.next()?)?.try_into().ok()?;
         let answer = hex::bytes(words.next()?).filter(|buffer| buffer.len() == ROOM)?.get(..length)?.to_vec();
+        self.take_given(record, Given { number, answer, record: next, changes: changes(words)? })
+    }
+
+    /// Takes record and image from what a record's call gave, or nothing where a byte changed that the image has not.
+    pub fn take_given(&mut self, record: &Record, given: Given) -> Option<Heard> {
+        let Given { number, answer, record: next, changes } = given;
+        let mut image = self.lent(record).to_vec();
         let mut changed: Vec<(usize, Vec<u8>)> = Vec::new();
-        for word in words {
-            let (place, value) = word.split_once('=')?;
-            let place = usize::from_str_radix(place, 16).ok()?;
-            let [value]: [u8; 1] = hex::bytes(value)?.try_into().ok()?;
+        for (place, value) in changes {
             *image.get_mut(place)? = value;
             match changed.last_mut() {
                 Some((first, bytes)) if *first + bytes.len() == place => bytes.push(value),

@@ -1,8 +1,9 @@
 //! The program `play`, over session programs and trial programs that print fixed lines.
 
 use std::fs;
+use std::io::{BufRead, BufReader, Write};
 use std::path::{Path, PathBuf};
-use std::process::{Command, Output};
+use std::process::{Command, Output, Stdio};
 
 /// A folder of its own for a test, with a script and its files in `expected`.
 struct Room(PathBuf);
@@ -123,7 +124,8 @@ fn a_check_fails_where_anything_differs() {
     fails(&room, "echo out 0", &format!("{}: No such file or directory (os error 2)", room.path("expected/out.lines")));
 }
 
-const USAGE: &str = "usage: play [--trial] [--check | --records | --bytes | --lines] FILE.script (--help tells more)";
+const USAGE: &str = "usage: play [--trial] [--check | --records | --bytes | --lines] FILE.script, \
+    or play --told [--capture FILE.pcap] (--help tells more)";
 const NO_RECORDS: &str = "--records and --bytes are for the session program: the trial program is handed with \
     each call what came of the one before, so that its input is made while it runs";
 
@@ -322,4 +324,101 @@ fn an_expected_page() {
         WRITTEN, WRITTEN
     );
     assert_eq!(errors, wanted);
+}
+
+// ---- a device's trace
+
+/// The trace of the calls that `trial_room` has lines for.
+fn trace() -> String {
+    let message = "6f070000000000000000ffd0ffff020a0b";
+    let image = format!("{}0102{}", "ff".repeat(0xffff), "ff".repeat(0xffff));
+    format!(
+        "trace in 11 {} {}\ntrace message {} {} {}{}\ntrace out {}\n",
+        raw("0b000008"),
+        image,
+        message,
+        WRITTEN,
+        raw("0b010220"),
+        CHANGES,
+        raw("00000008")
+    )
+}
+
+impl Room {
+    /// Runs play with this standard input.
+    fn told(&self, input: &str, words: &[&str]) -> (Option<i32>, String, String) {
+        self.put("input", input);
+        let output = Command::new(env!("CARGO_BIN_EXE_play"))
+            .args(words)
+            .stdin(fs::File::open(self.path("input")).unwrap())
+            .current_dir(&self.0)
+            .output()
+            .unwrap();
+        let text = |bytes: &[u8]| String::from_utf8_lossy(bytes).into_owned();
+        (output.status.code(), text(&output.stdout), text(&output.stderr))
+    }
+}
+
+/// A trace is told in the words that the same calls are told in over the trial program.
+#[test]
+fn a_trace_is_told() {
+    let room = trial_room("trace", &trial_lines());
+    let (_, played, _) = room.trial(&["out.script"]);
+    let parts = |text: &str| text.lines().filter(|line| line.starts_with("        ")).map(str::to_string).collect();
+    let played: Vec<String> = parts(&played);
+    let (code, out, errors) = room.told(&trace(), &["--told"]);
+    assert_eq!((code, errors.as_str()), (Some(0), ""));
+    assert_eq!(played, parts(&out));
+    assert_eq!(out.matches("\n\n").count(), 2);
+    let (code, out, _) = room.told("ready\ntrace sing\nready\n", &["--told"]);
+    assert_eq!(code, Some(1));
+    assert_eq!(out, "ready\n\ntrace line that is none: trace sing\nready\n");
+}
+
+#[test]
+fn a_trace_is_captured() {
+    let room = Room::new("captured");
+    let (code, out, errors) = room.told(&trace(), &["--root", "/", "--told", "--capture", "out.pcap"]);
+    assert_eq!((code, errors.as_str()), (Some(0), ""));
+    assert_eq!(out, room.told(&trace(), &["--told"]).1);
+    let file = fs::read(room.path("out.pcap")).unwrap();
+    // Four packets of descriptors and two of the message, each with 64 bytes in front.
+    assert_eq!(file.len(), 24 + 6 * 64 + 18 + 32 + 17 + 12);
+    room.told(&trace(), &["--told", "--capture", "again.pcap"]);
+    assert!(file == fs::read(room.path("again.pcap")).unwrap());
+    let (code, _, errors) = room.told("", &["--told", "--capture", "no/out.pcap"]);
+    assert_eq!((code, errors.as_str()), (Some(2), "play: no/out.pcap: No such file or directory (os error 2)\n"));
+    for words in [&["--told", "--capture"][..], &["--told", "out.pcap"], &["--trial", "--told"]] {
+        let (code, out, errors) = room.told("", words);
+        assert_eq!((code, out, errors), (Some(2), String::new(), format!("play: {}\n", USAGE)));
+    }
+}
+
+/// A line is told, and captured, before the next one comes.
+#[test]
+fn a_trace_is_told_as_it_comes() {
+    let room = Room::new("as-it-comes");
+    let mut play = Command::new(env!("CARGO_BIN_EXE_play"))
+        .args(["--told", "--capture", "out.pcap"])
+        .current_dir(&room.0)
+        .stdin(Stdio::piped())
+        .stdout(Stdio::piped())
+        .spawn()
+        .unwrap();
+    let (mut input, output) = (play.stdin.take().unwrap(), play.stdout.take().unwrap());
+    let mut lines = BufReader::new(output).lines().map(|line| line.unwrap());
+    let mut captured = 0;
+    for _ in 0..3 {
+        writeln!(input, "ready").unwrap();
+        assert_eq!(lines.next().as_deref(), Some("ready"));
+        writeln!(input, "trace escape 6b000000000001000000 83000000000001020000").unwrap();
+        let told: Vec<String> = lines.by_ref().take(5).collect();
+        assert!(told[4].starts_with("        device  answered"), "{:?}", told);
+        let length = fs::metadata(room.path("out.pcap")).unwrap().len();
+        assert!(length > captured);
+        captured = length;
+    }
+    drop(input);
+    assert_eq!(lines.next(), None);
+    assert_eq!(play.wait().unwrap().code(), Some(0));
 }

@@ -8,6 +8,7 @@ mod messages;
 mod pages;
 mod parameters;
 mod sessions;
+mod visits;
 
 pub use cards::WRONG_LENGTHS;
 pub use cases::{cases, Part, CASE_ENDINGS, LARGE_FAULTS, RECORD_FAULTS};
@@ -15,6 +16,7 @@ pub use counts::{borders, most_protected, COUNT_FAULTS};
 pub use pages::{bad_flag, bad_flags};
 pub use parameters::{DI, FI, SET_FAULTS};
 pub use sessions::{sessions, ENDINGS, LARGE_INSERTS};
+pub use visits::{visit, Exchange};
 
 use crate::case::LONGEST_IMAGE;
 use crate::reader::{Chip, CHIPS};

@@ -1,10 +1,13 @@
 //! Runs a script of a session: turns it into records, converses with the session program or the
 //! trial program and prints each answer taken apart.
 
+use script::capture::Capture;
+use script::follow;
 use script::parse::{self, Record, Step};
 use script::talk::{Heard, Over, Talk};
+use script::tell;
 use std::env;
-use std::fs;
+use std::fs::{self, File};
 use std::io::{self, Write};
 use std::path::{Path, PathBuf};
 use std::process::{self, ExitCode};
@@ -18,7 +21,8 @@ macro_rules! say {
     };
 }
 
-const USAGE: &str = "usage: play [--trial] [--check | --records | --bytes | --lines] FILE.script (--help tells more)";
+const USAGE: &str = "usage: play [--trial] [--check | --records | --bytes | --lines] FILE.script, \
+    or play --told [--capture FILE.pcap] (--help tells more)";
 const NO_RECORDS: &str = "--records and --bytes are for the session program: the trial program is handed with \
     each call what came of the one before, so that its input is made while it runs";
 
@@ -34,6 +38,8 @@ fn main() -> ExitCode {
         ref rest => (Over::Session, rest),
     };
     let result = match *words {
+        ["--told"] if over == Over::Session => tell_trace(None),
+        ["--told", "--capture", file] if over == Over::Session => tell_trace(Some(file)),
         ["--check", ref files @ ..] if is_files(files) => check_all(over, &root, files),
         ["--records" | "--bytes", _] if over == Over::Trial => Err(NO_RECORDS.to_string()),
         ["--records", file] => load(over, file).map(|steps| print_bytes(record_lines(&steps).as_bytes())),
@@ -60,6 +66,16 @@ fn main() -> ExitCode {
             ExitCode::from(2)
         }
     }
+}
+
+/// Tells a device's trace on standard input, and writes its exchanges into a capture file.
+fn tell_trace(file: Option<&str>) -> Result<bool, String> {
+    let start = |file: &str| {
+        let capture = File::create(file).and_then(Capture::start);
+        capture.map_err(|error| format!("{}: {}", file, error))
+    };
+    let capture = file.map(start).transpose()?;
+    follow::run(io::stdin().lock(), io::stdout().lock(), capture).map_err(|error| error.to_string())
 }
 
 /// Whether these are names of files, one or more, and no option is among them.
@@ -150,7 +166,7 @@ fn run(over: Over, root: &Path, file: &str, steps: &[Step], told: bool) -> Resul
                 if told {
                     say!("\n{:>4}  {}", line, cut(source));
                     for (name, text) in last.told(record) {
-                        say!("        {:<8}{}", name, text);
+                        say!("{}", tell::line(name, &text));
                     }
                 }
             }

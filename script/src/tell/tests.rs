@@ -28,6 +28,47 @@ fn messages() {
     );
     assert_eq!(message(0, &bytes("69 00000000 00 07 000000")), "69 an unsupported type, bSlot 00, bSeq 07");
     assert_eq!(message(0, &[0x65]), "a message of only 1 bytes: 65");
+    // Data of a type that has none.
+    let text = "62 power on, bSlot 00, bSeq 07, 2 data bytes AA BB";
+    assert_eq!(message(0, &bytes("62 02000000 00 07 000000 AA BB")), text);
+    let text = "6B an unsupported type, bSlot 00, bSeq 07, dwLength 00000000h where 1 bytes came, 1 data bytes 02";
+    assert_eq!(message(0, &bytes("6B 00000000 00 07 000000 02")), text);
+}
+
+/// A message that the device answers itself.
+#[test]
+fn escapes() {
+    let told = |message: &str, answer: &str| escape(&bytes(message), &bytes(answer));
+    let own = ("device", "answered this itself: the reader was not asked".to_string());
+    let status = ("status", "00 success, card active, error 00 none".to_string());
+    assert_eq!(
+        told("6B 01000000 00 01 000000 02", "83 04000000 00 01 000000 52 20 31 7E"),
+        [
+            ("sent", "6B escape, bSlot 00, bSeq 01, 1 data bytes 02".to_string()),
+            ("answer", "83 escape, bSlot 00, bSeq 01".to_string()),
+            status.clone(),
+            ("data", "52 20 31 7E, \"R 1~\"".to_string()),
+            own.clone(),
+        ]
+    );
+    // Bytes that are no text, and none at all.
+    assert_eq!(told("6B 00000000 00 01 000000", "83 02000000 00 01 000000 52 7F")[3].1, "52 7F");
+    assert_eq!(
+        told("6B 05000000 01 02 010203", "83 00000000 01 02 000000"),
+        [
+            (
+                "sent",
+                "6B escape, bSlot 01, bSeq 02, dwLength 00000005h where 0 bytes came, bytes 7 to 9 01 02 03, \
+                 0 data bytes"
+                    .to_string()
+            ),
+            ("answer", "83 escape, bSlot 01, bSeq 02".to_string()),
+            status,
+            own,
+        ]
+    );
+    // The reader has no such answer.
+    assert!(answer(0, &[], &bytes("83 00000000 00 01 000000"))[0].1.starts_with("83 no answer type of the paper,"));
 }
 
 #[test]
@@ -77,6 +118,9 @@ fn commands() {
         ("FF B3 00 00 00", "no command: FF B3 00 00 00"),
         ("00 B0 00 00 01", "no command: 00 B0 00 00 01"),
         ("FF B0", "2 data bytes FF B0"),
+        ("FF B0 01 02 10 AA", "B0 read 16 bytes from 0102, then 1 data bytes AA"),
+        ("FF B1 00 00 04 AA BB", "B1 read the counter, then 2 data bytes AA BB"),
+        ("FF B2 00 10 02 00", "B2 read 2 bytes of protection bits from 0010, then 1 data bytes 00"),
     ] {
         // On every card but one whose addresses have 17 bits.
         for kind in [0, 1, 9, 10, 20, 21, 30, 31, 77] {
@@ -93,6 +137,7 @@ fn commands_with_a_top_bit() {
         ("FF B0 FF FF 02", "B0 read 2 bytes from 0FFFF"),
         ("FF B1 00 00 04", "B1 read 4 bytes from 10000"),
         ("FF B1 FF FF 01", "B1 read 1 byte from 1FFFF"),
+        ("FF B1 FF FF 01 AA", "B1 read 1 byte from 1FFFF, then 1 data bytes AA"),
         ("FF D0 00 10 02 AA BB", "D0 write AA BB at 00010"),
         ("FF D1 00 10 02 AA BB", "D1 write AA BB at 10010"),
         ("FF D1 FF FF 01 AA", "D1 write AA at 1FFFF"),
