@@ -52,17 +52,21 @@ need_session() {
     fi
 }
 
-# The static library: proved and built when it is missing, or older than a source of a crate in it.
+# The static library: proved and built when it is missing, or older than a source of a crate in it. Of two scripts that need it at once
+# the second waits for the first.
 need_library() {
     grep -q "^$crate:" crates.txt || die "crates.txt has no crate $crate"
     set -- crates.txt
     for name in "$crate" $(sed -n "s/^$crate://p" crates.txt); do
         set -- "$@" "crates/$name/src" "crates/$name/specs" "crates/$name/proofs"
     done
-    if older "$library" "$@"; then
-        echo "$me: proving and building $library: a minute, or some where nothing is proved yet" >&2
-        run_rt staticlib "$crate"
-    fi
+    ! older "$library" "$@" || {
+        flock 8
+        if older "$library" "$@"; then
+            echo "$me: proving and building $library: a minute, or some where nothing is proved yet" >&2
+            run_rt staticlib "$crate"
+        fi
+    } 8<crates.txt
 }
 
 # need_packages PACKAGE..: Debian's packages of these names, installed where they are missing.
