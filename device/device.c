@@ -11,9 +11,10 @@
 #include <stdio.h>
 #include <stdlib.h>
 #include <string.h>
+#include <time.h>
 #include <unistd.h>
 
-enum { ESCAPE = 0x6B, ESCAPE_ANSWER = 0x83, HEADER = 10 };
+enum { ESCAPE = 0x6B, ESCAPE_ANSWER = 0x83, HEADER = 10, SWAP = 600 };
 /* At most 20 bytes: for one of its escape messages libccid has no room for more than 21, and takes 21 for something else. */
 static const char version[] = "Card reader 1.0";
 
@@ -22,6 +23,10 @@ static struct line line;
 static uint8_t record[CARD_READER_RECORD];
 static struct store store;
 static int traced;
+
+/* Whether a host has spoken since a card went in, and until when the slot is to be empty then, in milliseconds of a clock. */
+static int spoken;
+static long long empty_until;
 
 static void die(const char *form, ...)
 {
@@ -38,6 +43,13 @@ static void die(const char *form, ...)
 static int has_card(void)
 {
     return record[0] != 0;
+}
+
+static long long clock_now(void)
+{
+    struct timespec now;
+    clock_gettime(CLOCK_MONOTONIC, &now);
+    return now.tv_sec * 1000LL + now.tv_nsec / 1000000;
 }
 
 /* ---- what is told with --trace, a line each: docs/HOST.md has the forms */
@@ -127,19 +139,53 @@ static void serve(const uint8_t *message, size_t length)
         trace_changes();
     }
     trace_end();
+    spoken = 1;
     keep();
     if (line_send(&line, answer, (size_t)n) != 0)
         puts("the host does not take its answer");
 }
 
+/* Waits so long for the line, and for standard input where commands are taken: whether there is something on that. A message that has
+ * come is served. */
+static int listen(int patience, int commanded)
+{
+    struct pollfd watched[2] = { { line.near, POLLIN, 0 }, { commanded ? STDIN_FILENO : -1, POLLIN, 0 } };
+    int ready = poll(watched, 2, line.count > 0 ? PAUSE : patience);
+    size_t length;
+    const uint8_t *message;
+    if (ready < 0 && errno != EINTR)
+        die("poll: %s", strerror(errno));
+    if (ready > 0 && watched[0].revents != 0 && line_take(&line) != 0)
+        die("%s: %s", line.name, strerror(errno));
+    switch (line_arrival(&line, ready == 0)) {
+    case MESSAGE:
+        message = line_message(&line, &length);
+        serve(message, length);
+        line_clear(&line);
+        break;
+    case NO_FRAME:
+        trace("frame", line.got, line.count);
+        trace_end();
+        line_refuse(&line);
+        line_clear(&line);
+        break;
+    case NOTHING_YET:
+        break;
+    }
+    return ready > 0 && watched[1].revents != 0;
+}
+
 /* ---- a command */
 
-/* Puts the card of a file in: NULL, or why not. */
+/* Puts the card of a file in: NULL, or why not. A host that asks for the slot every 0.4 seconds is to see that the last card is out, else it takes the
+ * next one for that: so a hand that is faster waits. */
 static const char *insert(const char *path)
 {
     static char why[5000];
     if (has_card())
         return "a card is in already: remove it first";
+    while (clock_now() < empty_until)
+        listen((int)(empty_until - clock_now()), 0);
     if (store_open(&store, path, why, sizeof why) != 0)
         return why;
     if (card_reader_insert(record, sizeof record, store.card.kind->number, store.card.image, store.card.kind->image) != 0)
@@ -155,8 +201,11 @@ static const char *insert(const char *path)
 
 static void take_out(void)
 {
-    if (has_card())
+    if (has_card()) {
         store_close(&store);
+        empty_until = spoken ? clock_now() + SWAP : 0;
+        spoken = 0;
+    }
     card_reader_remove(record, sizeof record);
 }
 
@@ -231,7 +280,7 @@ static int commands(void)
     return 1;
 }
 
-/* ---- the start, and the loop */
+/* ---- the start */
 
 static void tell_start(const char *name)
 {
@@ -250,37 +299,6 @@ static void link_to_line(const char *name)
         unlink(name);
     if (symlink(line.name, name) != 0)
         die("%s: %s", name, strerror(errno));
-}
-
-static void loop(void)
-{
-    for (;;) {
-        struct pollfd watched[2] = { { line.near, POLLIN, 0 }, { STDIN_FILENO, POLLIN, 0 } };
-        int ready = poll(watched, 2, line.count > 0 ? PAUSE : -1);
-        size_t length;
-        const uint8_t *message;
-        if (ready < 0 && errno != EINTR)
-            die("poll: %s", strerror(errno));
-        if (ready > 0 && watched[0].revents != 0 && line_take(&line) != 0)
-            die("%s: %s", line.name, strerror(errno));
-        switch (line_arrival(&line, ready == 0)) {
-        case MESSAGE:
-            message = line_message(&line, &length);
-            serve(message, length);
-            line_clear(&line);
-            break;
-        case NO_FRAME:
-            trace("frame", line.got, line.count);
-            trace_end();
-            line_refuse(&line);
-            line_clear(&line);
-            break;
-        case NOTHING_YET:
-            break;
-        }
-        if (ready > 0 && watched[1].revents != 0 && !commands())
-            return;
-    }
 }
 
 int main(int argc, char **argv)
@@ -314,7 +332,8 @@ int main(int argc, char **argv)
     if (linked != NULL)
         link_to_line(linked);
     tell_start(linked != NULL ? linked : line.name);
-    loop();
+    while (!listen(-1, 1) || commands())
+        continue;
     take_out();
     if (linked != NULL)
         unlink(linked);

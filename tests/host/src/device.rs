@@ -88,11 +88,16 @@ impl Device {
         }
     }
 
+    /// Gives a command.
+    pub fn say(&mut self, text: &str) -> Result<(), String> {
+        let input = self.input.as_mut().ok_or("its input has ended")?;
+        writeln!(input, "{}", text).map_err(|error| format!("'{}' was not taken: {}", text, error))
+    }
+
     /// Gives a command, and the first line that it prints for it: the next one that is no trace.
     pub fn command(&mut self, text: &str) -> Result<String, String> {
         let from = self.lines().len();
-        let input = self.input.as_mut().ok_or("its input has ended")?;
-        writeln!(input, "{}", text).map_err(|error| format!("'{}' was not taken: {}", text, error))?;
+        self.say(text)?;
         let at = self.wait_for(from, |line| !line.starts_with("trace "))?;
         Ok(self.lines()[at].clone())
     }

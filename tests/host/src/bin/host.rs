@@ -294,8 +294,7 @@ impl Bench {
         line.ask(&message(0x6f, 4, &SELECT_4442))?;
         line.ask(&message(0x6f, 5, &WRONG))?;
         same("noise", &line.bounce(&[0x55])?, &REFUSED)?;
-        let said = device.command("remove")?;
-        expect(said == "the card is out" || said.is_empty(), || said.clone())?;
+        device.say("remove")?;
         device.wait_for(0, |line| line == "        line    out 0, the slot is empty")?;
         let lines = device.quit();
         for wanted in [
