@@ -6,6 +6,7 @@ use faults::fault_of;
 use faults::is_clear;
 use frame::Reply;
 use frame::seal;
+use frame::seal_done;
 use slot::Holds;
 use slot::Slot;
 ghost use mathlib.Core.Path.{_≡_};
@@ -36,7 +37,7 @@ fn transfer(slot: Slot, image: &mut [u8], msg: &[u8], answer: &mut [u8]) -> Repl
     let told = command::command(chip, slot, image, &msg[10..], &mut answer[10..]);
     let len = told.len;
     let next = told.slot;
-    seal(0x80, fault, len, next, msg, answer)
+    seal_done(0x80, len, next, msg, answer)
 }
 
 // A type that is not supported.

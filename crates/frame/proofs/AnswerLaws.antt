@@ -7,7 +7,7 @@ use native.Mathlib.Omega.{arith}
 use lib.ListN.{length, take, drop, length-append, take-append-drop}
 use Rattle.words.specs.Choice.{_or_}
 use Rattle.words.specs.Bytes.{over, fourBytes}
-use Rattle.words.proofs.Choices.{first, rest, either}
+use Rattle.words.proofs.Choices.{first, rest}
 use Rattle.words.proofs.Lists.{over-head, over-none}
 use Rattle.slot.specs.declared.Slot.{Slot}
 use Rattle.sound.specs.Sound.{imageIsCard, pageSize, sound}
@@ -16,6 +16,7 @@ use Rattle.faults.specs.declared.Fault.{Fault}
 use Rattle.frame.specs.declared.Refusal.{Refusal}
 use Rattle.frame.specs.declared.Verdict.{Verdict}
 use Rattle.frame.specs.declared.Reply.{Reply}
+use Rattle.faults.proofs.ClearLaws.{clear-is, clear-slot}
 use Rattle.faults.specs.Faults.{Request, bSlot, bSeq, typeByte, requestOf, faultOf, isClear}
 use Rattle.frame.specs.Answers.{answerType, bError, cardState, bStatus, byte9, header, answer}
 use Rattle.frame.specs.Exchange.{Outcome, number, answerLength, turnedDown, idle, deed, answered, replied, reply, served, Gives, Sealed}
@@ -79,6 +80,14 @@ pub sealed-type : {type type′ : ℕ} {f : Fault} {n : ℕ} {s : Slot} {m : Lis
     → Sealed type′ f n s m r was holds
 sealed-type {type} {type′} {f} {n} {s} {m} {r} {was} {holds} e z = subst (λ (x : ℕ). Sealed x f n s m r was holds) e z
 
+-- without a fault
+pub sealed-clear : {type : ℕ} {f : Fault} {n : ℕ} {s : Slot} {m : List ℕ} {r : Reply} {was holds : List ℕ} → isClear f ≡ true
+    → Sealed type Fault.Clear n s m r was holds → Sealed type f n s m r was holds
+sealed-clear {type} {f} {n} {s} {m} {r} {was} {holds} e z = subst⁻¹ (λ (x : Fault). Sealed type x n s m r was holds) (clear-is f e) z
+
+pub names-0 : (r : Request) (s : Slot) (m : List ℕ) {f : Fault} → f ≡ faultOf r s m → isClear f ≡ true → bSlot m ≡ 0
+names-0 r s m is e = clear-slot r s m (subst (λ (x : Fault). isClear x ≡ true) is e)
+
 -- ---- a reply, with the fault that was found
 module _ (r : Request) (s : Slot) (image m : List ℕ) {f : Fault} (is : f ≡ faultOf r s m) where
   by-fault : {rep : Reply} {left was holds : List ℕ} → Gives (replied r f s image m) rep left was holds → Gives (reply r s image m) rep left was holds
@@ -102,13 +111,6 @@ module _ (r : Request) (s : Slot) (image m : List ℕ) {f : Fault} (is : f ≡ f
       → Sealed (answerType r) f 0 s′ m rep was holds → Gives (reply r s image m) rep image was holds
   unfolding replied
   gives-quiet was s′ e k h z = by-fault (gives-is (ap (answered r m f) (first _ _ e ∙ k)) (gives-plain r m f s′ image was h z))
-
-  -- failed or not, nothing is done
-  pub gives-idle : (was : List ℕ) {rep : Reply} {holds : List ℕ} → deed r (s .holds) s image m ≡ idle s image → 10 ≤ length was
-      → Sealed (answerType r) f 0 s m rep was holds → Gives (reply r s image m) rep image was holds
-  unfolding replied
-  gives-idle was k h z =
-      by-fault (gives-is (ap (answered r m f) (either (λ (d : Deed). d ≡ idle s image) (isClear f) (λ _. k) (λ _. refl))) (gives-plain r m f s image was h z))
 
 -- a reply to the same request
 pub gives-request : (s : Slot) (image m : List ℕ) {r r′ : Request} {rep : Reply} {left was holds : List ℕ} → r ≡ r′ → Gives (reply r′ s image m) rep left was holds

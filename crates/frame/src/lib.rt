@@ -11,7 +11,8 @@ ghost use lib.ListN.{length};
 ghost use Rattle.words.specs.Choice.{_⇒_⁏_};
 ghost use Rattle.words.specs.Bytes.{over};
 ghost use Rattle.sets.specs.Sets.{protocolOf};
-ghost use Rattle.faults.specs.Faults.{isClear};
+ghost use Rattle.faults.specs.declared.Fault.the-variants.{Clear};
+ghost use Rattle.faults.specs.Faults.{bSlot, isClear};
 ghost use Rattle.frame.specs.Answers.{bError, cardState, bStatus, byte9, header};
 ghost use Rattle.frame.specs.Exchange.{numberOf, number, answerLength, Sealed};
 
@@ -190,6 +191,28 @@ pub fn seal(
         status_of(fault, state),
         error_of(fault),
         last_of(answer_type, fault, state, slot),
+    );
+    Reply {
+        verdict: Verdict::Answered(10 + len),
+        slot,
+    }
+}
+
+// The answer of a message without a fault, sealed likewise: it names slot 0.
+pub fn seal_done(answer_type: u8, len: usize, slot: Slot, msg: &[u8], answer: &mut [u8]) -> Reply
+    requires { ⌜ (10 ≤ length (now msg)) × (10 ≤ length (now answer)) × (len ≤ 257) × (bSlot (now msg) ≡ 0) ⌝ }
+    ensures { λ r. ⌜ Sealed «answer_type» Clear len slot (now (msg .entry)) r (now (answer .entry)) (now (answer .exit)) ⌝ }
+{
+    let state = state_of(0, slot);
+    put_header(
+        answer,
+        answer_type,
+        len,
+        0,
+        msg[6],
+        state,
+        0,
+        last_of(answer_type, Fault::Clear, state, slot),
     );
     Reply {
         verdict: Verdict::Answered(10 + len),

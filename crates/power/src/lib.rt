@@ -6,6 +6,7 @@ use faults::fault_of;
 use faults::is_clear;
 use frame::Reply;
 use frame::seal;
+use frame::seal_done;
 use slot::Holds;
 use slot::Slot;
 use words::put_two;
@@ -53,7 +54,7 @@ pub fn power_on(slot: Slot, image: &[u8], msg: &[u8], answer: &mut [u8]) -> Repl
     };
     let len = answer_to_reset(chip, image, &mut answer[10..]);
     let next = slot.power(true).reset_set();
-    seal(0x80, fault, len, next, msg, answer)
+    seal_done(0x80, len, next, msg, answer)
 }
 
 // 63h.
@@ -66,7 +67,7 @@ pub fn power_off(slot: Slot, msg: &[u8], answer: &mut [u8]) -> Reply
         return seal(0x81, fault, 0, slot, msg, answer);
     }
     let next = slot.power(false);
-    seal(0x81, fault, 0, next, msg, answer)
+    seal_done(0x81, 0, next, msg, answer)
 }
 
 // 65h.
@@ -75,5 +76,8 @@ pub fn slot_status(slot: Slot, msg: &[u8], answer: &mut [u8]) -> Reply
     ensures { λ r. ⌜ ((image : List ℕ) → Gives (reply SlotStatus slot image (now (msg .entry))) r image (now (answer .entry)) (now (answer .exit))) ⌝ }
 {
     let fault = fault_of(0x65, slot, msg);
-    seal(0x81, fault, 0, slot, msg, answer)
+    if !is_clear(fault) {
+        return seal(0x81, fault, 0, slot, msg, answer);
+    }
+    seal_done(0x81, 0, slot, msg, answer)
 }

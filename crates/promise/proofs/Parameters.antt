@@ -28,7 +28,8 @@ use Rattle.frame.specs.Exchange.{Outcome, deed, answered, exchange, insertion}
 use Rattle.reader.specs.Runs.{Sent, Run, sending, run}
 use Rattle.reader.specs.Rules.{rules}
 use Rattle.reader.specs.Heard.{requested, faulted, heard}
-use Rattle.reader.proofs.Came.{Came, down, failed, obeyed, came, heard-clear, clear-is, clear-field, clear-ready}
+use Rattle.faults.proofs.ClearLaws.{clear-is, clear-field, clear-ready}
+use Rattle.reader.proofs.Came.{Came, down, failed, obeyed, came, heard-clear}
 use Rattle.reader.proofs.Insertions.{insertion-inserts}
 use Rattle.promise.proofs.Reached.{heard-does}
 use Rattle.vectors.specs.Sessions.{lent, transfer, image4442, wrong4442}

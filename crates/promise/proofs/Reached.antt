@@ -24,7 +24,8 @@ use Rattle.orders.proofs.ImageKept.{counter-kept}
 use Rattle.frame.specs.Exchange.{Outcome, deed, answered}
 use Rattle.reader.specs.Runs.{Sent, sending}
 use Rattle.reader.specs.Heard.{requested, faulted, heard, transfers, reached}
-use Rattle.reader.proofs.Came.{obeyed, Came, down, failed, came, heard-clear, clear-is}
+use Rattle.faults.proofs.ClearLaws.{clear-is}
+use Rattle.reader.proofs.Came.{obeyed, Came, down, failed, came, heard-clear}
 use Rattle.promise.specs.Tries.{none, wrong, right, rightNow, eventOf}
 
 -- ---- the tests of `reached`, read back

@@ -1,19 +1,17 @@
 -- What comes of a message, taken apart once: it is turned down, or fails, or is heard and obeyed.
 use Prim.Native.Nat.{ℕ}
-use mathlib.Core.Path.{_≡_, refl, sym}
-use mathlib.Core.Bool.{true, false, false≢true}
+use mathlib.Core.Path.{_≡_, sym}
+use mathlib.Core.Bool.{true, false}
 use mathlib.Core.List.{List}
 use lib.ListN.{length}
 use lib.Dec.{leb}
-use borrow.Author.Tests.{eqb-true, ltb-true, ltb-false, lt-leb, le-leb, not-true, not-false}
-use Rattle.words.specs.Choice.{_isnt_}
+use borrow.Author.Tests.{ltb-true, ltb-false, lt-leb, le-leb, not-true, not-false}
 use Rattle.words.specs.Bounds.{leastRoom}
-use Rattle.words.proofs.Choices.{either, past, and-true, and-fails, and-holds, both}
+use Rattle.words.proofs.Choices.{either, and-true, and-fails, and-holds, both}
 use Rattle.slot.specs.declared.Slot.{Slot}
 use Rattle.sound.specs.Sound.{imageIsCard, sound}
 use Rattle.orders.specs.Orders.{Deed}
-use Rattle.faults.specs.declared.Fault.{Fault}
-use Rattle.faults.specs.Faults.{Request, badField, ready, faultOf, isClear}
+use Rattle.faults.specs.Faults.{isClear}
 use Rattle.frame.specs.declared.Refusal.{Refusal}
 use Rattle.frame.specs.Exchange.{Outcome, turnedDown, idle, deed, answered, replied, reply, served, exchange}
 use Rattle.reader.specs.Runs.{Sent, sending}
@@ -50,33 +48,3 @@ heard-proper s image m e =
 pub heard-clear : (s : Slot) (image : List ℕ) (m : Sent) → heard s image m ≡ true → isClear (faulted s m) ≡ true
 unfolding heard
 heard-clear s image m e = and-true _ _ (and-true _ _ (and-true _ _ (and-true _ _ e .1) .1) .1) .1
-
--- no fault is one fault
-pub clear-is : (f : Fault) → isClear f ≡ true → f ≡ Fault.Clear
-clear-is Fault.Clear e = refl
-clear-is Fault.Unknown e = absurd (false≢true e)
-clear-is Fault.Length e = absurd (false≢true e)
-clear-is Fault.OtherSlot e = absurd (false≢true e)
-clear-is (Fault.Field at) e = absurd (false≢true e)
-clear-is Fault.Card e = absurd (false≢true e)
-
--- a message without a fault has no wrong field, and met a slot that is ready for it
-record Met (r : Request) (s : Slot) (m : List ℕ) (f : Fault) : Type 0 where
-  met : isClear f ≡ true → (badField r m ≡ 0) × (ready r s ≡ true)
-
-fault-met : (r : Request) (s : Slot) (m : List ℕ) → Met r s m (faultOf r s m)
-unfolding faultOf
-fault-met r s m =
-    past (Met r s m) _ (record { met = no })
-    (λ _. past (Met r s m) _ (record { met = no }) (λ _. past (Met r s m) _ (record { met = no }) (λ _. past (Met r s m) _ (record { met = no }) (λ _.
-    past (Met r s m) (badField r m isnt 0) (record { met = no }) (λ k.
-    either (Met r s m) _ (λ _. record { met = no }) (λ e. record { met = λ _. (eqb-true _ 0 (not-false _ k), not-false _ e) }))))))
-  where
-    no : false ≡ true → (badField r m ≡ 0) × (ready r s ≡ true)
-    no e = absurd (false≢true e)
-
-pub clear-field : (r : Request) (s : Slot) (m : List ℕ) → isClear (faultOf r s m) ≡ true → badField r m ≡ 0
-clear-field r s m e = fault-met r s m .met e .0
-
-pub clear-ready : (r : Request) (s : Slot) (m : List ℕ) → isClear (faultOf r s m) ≡ true → ready r s ≡ true
-clear-ready r s m e = fault-met r s m .met e .1

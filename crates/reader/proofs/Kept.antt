@@ -33,7 +33,8 @@ use Rattle.reader.specs.Proper.{Proper}
 use Rattle.reader.specs.Heard.{requested}
 use Rattle.reader.proofs.Verdicts.{refused-some}
 use Rattle.reader.proofs.Insertions.{Accepted, Inserts, insertion-inserts}
-use Rattle.reader.proofs.Came.{Came, down, failed, obeyed, came, heard-proper, heard-clear, clear-field, clear-ready}
+use Rattle.faults.proofs.ClearLaws.{clear-field, clear-ready}
+use Rattle.reader.proofs.Came.{Came, down, failed, obeyed, came, heard-proper, heard-clear}
 
 -- ---- the same card
 deed-holds : (r : Request) (h : Holds) (s : Slot) (image m : List ℕ) → deed r h s image m .slot .holds ≡ s .holds

@@ -19,7 +19,7 @@ use Rattle.sound.specs.Sound.{imageIsCard}
 use Rattle.orders.specs.Orders.{commanded, Does}
 use Rattle.faults.specs.Faults.{Transfer, apdu, requestOf}
 use Rattle.frame.specs.Exchange.{deed}
-use Rattle.frame.proofs.AnswerLaws.{gives-failed, gives-done, gives-quiet, sealed-slot}
+use Rattle.frame.proofs.AnswerLaws.{gives-failed, gives-done, gives-quiet, sealed-slot, sealed-clear, names-0}
 use Rattle.dispatch.proofs.transfer.Statement.{statement}
 use Rattle.dispatch.proofs.transfer.Tie as tie
 
@@ -103,8 +103,16 @@ command-requires c κs =
       start .pre .4 ∙ ap (λ (h : Holds). protectedOf h (a .image .now)) (at-holds .holds .given .1) ∙ protected-card (at-holds .holds .given .0 .0) (a .image .now) long,
     )
 
-seal-requires-3 : tie.Need-seal-requires-3
-seal-requires-3 c κs = (search needs, search needs, c .before .before .before .before .before .before .command .ensures .1)
+seal-done-requires : tie.Need-seal-done-requires
+seal-done-requires c κs = (
+  search needs,
+  search needs,
+  c .before .before .before .before .before .before .command .ensures .1,
+  let at-holds = c .before .before .before .before .before .before .before .before .before .before .before in
+      let at-if1 = at-holds .before .before in
+      let at-is-clear = at-if1 .before in
+      names-0 _ _ _ (at-is-clear .before .fault-of .ensures) (sym (at-is-clear .is-clear .ensures) ∙ not-false _ (at-if1 .if1 .left)),
+)
 
 same-length-3 : tie.Need-same-length-3
 same-length-3 c = search needs
@@ -134,7 +142,7 @@ returns-3 c =
     (sym (at-is-clear .is-clear .ensures) ∙ not-false _ (at-if1 .if1 .left))
     (ap (λ (h : Holds). deed Transfer h (a .slot) im m) (at-holds .holds .given .1))
     (g .len) (omega (arith, start .pre .1)) (lent-tail 10 (a .answer .now) (commanded f (a .slot) im (apdu m) .said) (g .out)) (g .image)
-    (sealed-slot (g .slot) (c .before .before .seal3 .ensures))
+    (sealed-slot (g .slot) (sealed-clear (sym (at-is-clear .is-clear .ensures) ∙ not-false _ (at-if1 .if1 .left)) (c .before .before .seal-done .ensures)))
 
 pub transfer-spec : {M : Type 1} → statement M
 transfer-spec =
@@ -157,7 +165,7 @@ transfer-spec =
     part-command-start-2
     part-command-end-2
     command-requires
-    seal-requires-3
+    seal-done-requires
     same-length-3
     same-length-4
     returns-3)

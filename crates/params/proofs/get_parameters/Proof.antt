@@ -4,6 +4,7 @@ use mathlib.Core.Path.{refl}
 use Rattle.words.specs.Choice.{_⇒_⁏_}
 use Rattle.faults.specs.Faults.{GetParameters, requestOf}
 use Rattle.frame.specs.Exchange.{deed}
+use Rattle.frame.proofs.AnswerLaws.{names-0}
 use Rattle.params.proofs.get_parameters.Statement.{statement}
 use Rattle.params.proofs.get_parameters.Tie as tie
 
@@ -11,7 +12,7 @@ fault-of-requires : tie.Need-fault-of-requires
 fault-of-requires c κs = search needs
 
 tell-requires : tie.Need-tell-requires
-tell-requires c κs = search needs
+tell-requires c κs = (search needs, search needs, names-0 _ _ _ (c .before .fault-of .ensures))
 
 same-length : tie.Need-same-length
 same-length c = search needs

@@ -5,6 +5,7 @@ use Rattle.words.specs.Choice.{_⇒_⁏_}
 use Rattle.slot.specs.declared.Slot.{Slot}
 use Rattle.faults.specs.Faults.{ResetParameters, requestOf}
 use Rattle.frame.specs.Exchange.{told, deed}
+use Rattle.frame.proofs.AnswerLaws.{names-0}
 use Rattle.params.proofs.reset_parameters.Statement.{statement}
 use Rattle.params.proofs.reset_parameters.Tie as tie
 
@@ -15,7 +16,7 @@ reset-set-requires : tie.Need-reset-set-requires
 reset-set-requires c κs = search needs
 
 tell-requires : tie.Need-tell-requires
-tell-requires c κs = search needs
+tell-requires c κs = (search needs, search needs, names-0 _ _ _ (c .before .before .fault-of .ensures))
 
 same-length : tie.Need-same-length
 same-length c = search needs

@@ -7,6 +7,7 @@ use Rattle.slot.specs.declared.Slot.{Slot}
 use Rattle.slot.specs.Slots.{setAs}
 use Rattle.faults.specs.Faults.{SetParameters, requestOf}
 use Rattle.frame.specs.Exchange.{told, deed}
+use Rattle.frame.proofs.AnswerLaws.{names-0}
 use Rattle.params.proofs.set_parameters.Statement.{statement}
 use Rattle.params.proofs.set_parameters.Tie as tie
 
@@ -20,7 +21,7 @@ with-set-requires : tie.Need-with-set-requires
 with-set-requires c κs = search needs
 
 tell-requires : tie.Need-tell-requires
-tell-requires c κs = search needs
+tell-requires c κs = (search needs, search needs, names-0 _ _ _ (c .before .before .before .fault-of .ensures))
 
 same-length : tie.Need-same-length
 same-length c = search needs

@@ -7,7 +7,7 @@ use lib.ListN.{length-drop}
 use Rattle.words.proofs.Lists.{lent-tail, tail-is}
 use Rattle.sets.specs.Sets.{bytesOf}
 use Rattle.frame.specs.Exchange.{told}
-use Rattle.frame.proofs.AnswerLaws.{gives-failed, gives-done, sealed-type}
+use Rattle.frame.proofs.AnswerLaws.{gives-failed, gives-done, sealed-type, sealed-clear}
 use Rattle.params.proofs.tell.Statement.{statement}
 use Rattle.params.proofs.tell.Tie as tie
 
@@ -42,8 +42,14 @@ put-set-requires c κs =
     let a = c .before .before .before .before .before .args in
     rw (tail-is 10 (a .answer .now)) (omega (arith, length-drop 10 (a .answer .now)))
 
-seal-requires-2 : tie.Need-seal-requires-2
-seal-requires-2 c κs = search needs
+seal-done-requires : tie.Need-seal-done-requires
+seal-done-requires c κs = (
+  search needs,
+  search needs,
+  search needs,
+  let at-if1 = c .before .before .before .before .before in
+      at-if1 .before .before .before .before .pre .2 (sym (at-if1 .before .is-clear .ensures) ∙ not-false _ (at-if1 .if1 .left)),
+)
 
 same-length-2 : tie.Need-same-length-2
 same-length-2 c = search needs
@@ -57,7 +63,7 @@ returns-2 c q image type fault does =
     let put = at-put-set .put-set .ensures in
     let clear = sym (at-if1 .before .is-clear .ensures) ∙ not-false _ (at-if1 .if1 .left) in
     gives-done q (a .slot) image (a .msg .now) fault (a .answer .now) (told (a .next) image) clear does (put .0) (omega arith)
-    (lent-tail 10 (a .answer .now) (bytesOf (a .next .set)) (put .1)) refl (sealed-type (sym type) (c .before .before .seal2 .ensures))
+    (lent-tail 10 (a .answer .now) (bytesOf (a .next .set)) (put .1)) refl (sealed-type (sym type) (sealed-clear clear (c .before .before .seal-done .ensures)))
 
 pub tell-spec : {M : Type 1} → statement M
 tell-spec =
@@ -71,6 +77,6 @@ tell-spec =
     part-put-set-start
     part-put-set-end
     put-set-requires
-    seal-requires-2
+    seal-done-requires
     same-length-2
     returns-2)

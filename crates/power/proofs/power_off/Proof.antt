@@ -8,7 +8,7 @@ use Rattle.words.specs.Choice.{_⇒_⁏_}
 use Rattle.slot.specs.Slots.{powered}
 use Rattle.faults.specs.Faults.{PowerOff, requestOf}
 use Rattle.frame.specs.Exchange.{deed}
-use Rattle.frame.proofs.AnswerLaws.{gives-failed, gives-quiet, sealed-slot}
+use Rattle.frame.proofs.AnswerLaws.{gives-failed, gives-quiet, sealed-slot, sealed-clear, names-0}
 use Rattle.power.proofs.power_off.Statement.{statement}
 use Rattle.power.proofs.power_off.Tie as tie
 
@@ -39,8 +39,14 @@ returns c image =
 power-requires : tie.Need-power-requires
 power-requires c κs = search needs
 
-seal-requires-2 : tie.Need-seal-requires-2
-seal-requires-2 c κs = search needs
+seal-done-requires : tie.Need-seal-done-requires
+seal-done-requires c κs =
+    let at-if1 = c .before .before in
+    let at-is-clear = at-if1 .before in
+    let at-fault-of = at-is-clear .before in
+    let a = at-fault-of .before .before .before .args in
+    let clear = sym (at-is-clear .is-clear .ensures) ∙ not-false _ (at-if1 .if1 .left) in
+    (search needs, search needs, search needs, names-0 _ (a .slot) (a .msg .now) (at-fault-of .fault-of .ensures) clear)
 
 same-length-2 : tie.Need-same-length-2
 same-length-2 c = search needs
@@ -55,7 +61,7 @@ returns-2 c image =
     let start = at-fault-of .before .before .before in
     let a = start .args in
     let clear = sym (at-is-clear .is-clear .ensures) ∙ not-false _ (at-if1 .if1 .left) in
-    let sealed = sealed-slot (at-power .power .ensures) (c .before .before .seal2 .ensures) in
+    let sealed = sealed-slot (at-power .power .ensures) (sealed-clear clear (c .before .before .seal-done .ensures)) in
     gives-quiet PowerOff (a .slot) image (a .msg .now) (at-fault-of .fault-of .ensures) (a .answer .now) (powered false (a .slot)) clear refl
     (omega arith) sealed
 
@@ -69,6 +75,6 @@ power-off-spec =
     same-length
     returns
     power-requires
-    seal-requires-2
+    seal-done-requires
     same-length-2
     returns-2)

@@ -17,7 +17,7 @@ use Rattle.sound.specs.Sound.{imageIsCard}
 use Rattle.orders.specs.Orders.{Deed}
 use Rattle.faults.specs.Faults.{PowerOn, requestOf}
 use Rattle.frame.specs.Exchange.{reset, deed}
-use Rattle.frame.proofs.AnswerLaws.{gives-failed, gives-quiet, gives-done, sealed-slot}
+use Rattle.frame.proofs.AnswerLaws.{gives-failed, gives-quiet, gives-done, sealed-slot, sealed-clear, names-0}
 use Rattle.power.proofs.power_on.Statement.{statement}
 use Rattle.power.proofs.power_on.Tie as tie
 
@@ -94,8 +94,18 @@ power-requires c κs = search needs
 reset-set-requires : tie.Need-reset-set-requires
 reset-set-requires c κs = search needs
 
-seal-requires-3 : tie.Need-seal-requires-3
-seal-requires-3 c κs = search needs
+seal-done-requires : tie.Need-seal-done-requires
+seal-done-requires c κs = (
+  search needs,
+  search needs,
+  search needs,
+  let at-if1 = c .before .before .before .before .before .before .before .before .before .before in
+      let at-is-clear = at-if1 .before in
+      let at-fault-of = at-is-clear .before in
+      let a = at-fault-of .before .before .before .before .args in
+      let clear = sym (at-is-clear .is-clear .ensures) ∙ not-false _ (at-if1 .if1 .left) in
+      names-0 _ (a .slot) (a .msg .now) (at-fault-of .fault-of .ensures) clear,
+)
 
 same-length-3 : tie.Need-same-length-3
 same-length-3 c = search needs
@@ -122,7 +132,7 @@ returns-3 c =
     let next = at-reset-set .reset-set .ensures ∙ ap defaulted (at-power .power .ensures) in
     gives-done PowerOn (a .slot) im (a .msg .now) (at-fault-of .fault-of .ensures) (a .answer .now) d clear does (told .0)
     (omega (arith, start .pre .1))
-    (lent-tail 10 (a .answer .now) (reset f im) (told .1)) refl (sealed-slot next (c .before .before .seal3 .ensures))
+    (lent-tail 10 (a .answer .now) (reset f im) (told .1)) refl (sealed-slot next (sealed-clear clear (c .before .before .seal-done .ensures)))
 
 pub power-on-spec : {M : Type 1} → statement M
 power-on-spec =
@@ -144,6 +154,6 @@ power-on-spec =
     answer-to-reset-requires
     power-requires
     reset-set-requires
-    seal-requires-3
+    seal-done-requires
     same-length-3
     returns-3)
