@@ -2,7 +2,7 @@
 // memory bytes. Inner functions: each asks that the bits lie in the image and that what it writes fits the lent buffer.
 // The rules are written in specs/Bits.antt.
 
-use words::lay;
+use copies::lay;
 use words::least;
 use words::wide;
 ghost use mathlib.Core.Path.{_≡_};

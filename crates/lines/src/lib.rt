@@ -1,8 +1,8 @@
 // The lines of a session, put into a lent buffer: a word, a number, and of an answered message the answer in hex.
 // Inner functions: each says how many bytes it put and every byte of the buffer, and asks that they fit.
 
+use copies::lay;
 use records::Mark;
-use words::lay;
 use words::put_two;
 ghost use mathlib.Core.Path.{_≡_};
 ghost use Prim.Native.Nat.{_+_, _*_, _≤_, _<_};

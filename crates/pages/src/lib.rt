@@ -1,7 +1,7 @@
 // Storing bytes into a lent image, and the page writes of an I2C card, over plain numbers.
 // Inner functions: each asks that its range lies in the image. The rules are written in specs/Pages.antt.
 
-use words::lay;
+use copies::lay;
 use words::least;
 ghost use mathlib.Core.Path.{_≡_};
 ghost use Prim.Native.Nat.{_+_, _%_, _≤_, _<_};

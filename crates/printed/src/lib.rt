@@ -1,6 +1,7 @@
 // What a session prints, put into a lent buffer part by part: the line of a record that is done, and what is printed where the session stops.
 // No public function has a `requires`: any record, any body and whatever is held has its one line.
 
+use copies::lay;
 use lines::put_line;
 use records::Mark;
 use records::Record;
@@ -8,7 +9,6 @@ use sitting::Held;
 use words::LARGEST_HELD;
 use words::LINE;
 use words::ROOM;
-use words::lay;
 ghost use mathlib.Core.Path.{_≡_};
 ghost use Prim.Native.Nat.{_+_, _*_, _≤_};
 ghost use lib.ListN.{length, take};

@@ -2,7 +2,7 @@
 // Inner functions: each asks that its range lies in the image and that what it writes fits the lent buffer.
 // The rules are written in specs/Reads.antt.
 
-use words::lay;
+use copies::lay;
 ghost use mathlib.Core.Path.{_≡_};
 ghost use Prim.Native.Nat.{_+_, _≤_, _<_};
 ghost use lib.ListN.{length, take, drop};

@@ -65,7 +65,7 @@ fn put_in(kind: u8, card: &[u8], slot: Slot, size: usize, image: &mut [u8]) -> D
             held: Held { slot: next, size },
         };
     }
-    words::lay(card, image);
+    copies::lay(card, image);
     Done {
         number,
         len: 0,

@@ -2,7 +2,7 @@
 use Prim.Native.Nat.{ℕ, zero, suc, _+_, _*_, _/_, _%_, _<_}
 use mathlib.Core.Bool.{Bool, true, false}
 use mathlib.Core.List.{List, [], _∷_, _++_}
-use lib.ListN.{length, getD, take, drop}
+use lib.ListN.{length, getD, drop}
 use Rattle.words.specs.Choice.{_and_, _is_}
 
 -- byte k of a list, 0 beyond its end
@@ -52,10 +52,6 @@ lowFirst (suc k) n = n % 256 ∷ lowFirst k (n / 256)
 -- bytes laid over the front of a buffer: what is past them keeps its value
 unfoldable pub over : List ℕ → List ℕ → List ℕ
 over bytes buffer = bytes ++ drop (length bytes) buffer
-
--- the k bytes from `at` on, laid over a buffer at the same place
-unfoldable pub block : ℕ → ℕ → List ℕ → List ℕ → List ℕ
-block k at bytes buffer = take at buffer ++ over (take k (drop at bytes)) (drop at buffer)
 
 -- f k, f (k + 1), .., n of them
 unfoldable pub series : (ℕ → ℕ) → ℕ → ℕ → List ℕ

@@ -5,10 +5,10 @@ use native.Mathlib.Omega.{arith}
 use Prim.Native.Nat.{ℕ, _+_, _-_, _≤_}
 use mathlib.Core.List.{List, _++_}
 use lib.ListN.{length, take, drop}
-use Rattle.words.specs.Bytes.{block}
-use Rattle.words.proofs.Lists.{block-copied, block-last}
-use Rattle.words.proofs.lay.Statement.{statement}
-use Rattle.words.proofs.lay.Tie as tie
+use Rattle.copies.specs.Blocks.{block}
+use Rattle.copies.proofs.BlockLaws.{block-copied, block-last}
+use Rattle.copies.proofs.lay.Statement.{statement}
+use Rattle.copies.proofs.lay.Tie as tie
 
 abbrev Inv-loop : tie.InvT-loop
 Inv-loop src dst₀ n i₀ dst i = (i ≤ length src) × (length dst ≡ length dst₀) × (dst ≡ take i src ++ drop i dst₀)

@@ -1,9 +1,9 @@
 -- `lay_64` meets its contract: each block of 16 follows the one before.
 use borrow.Author.Needs.{needs}
 use native.Mathlib.Omega.{arith}
-use Rattle.words.proofs.Lists.{block-next}
-use Rattle.words.proofs.lay_64.Statement.{statement}
-use Rattle.words.proofs.lay_64.Tie as tie
+use Rattle.copies.proofs.BlockLaws.{block-next}
+use Rattle.copies.proofs.lay_64.Statement.{statement}
+use Rattle.copies.proofs.lay_64.Tie as tie
 
 lay-16-requires : tie.Need-lay-16-requires
 lay-16-requires c κs = search needs

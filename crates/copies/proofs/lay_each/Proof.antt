@@ -5,9 +5,9 @@ use native.Mathlib.Omega.{arith}
 use Prim.Native.Nat.{ℕ, _-_, _≤_}
 use mathlib.Core.List.{List, _++_}
 use lib.ListN.{length, take, drop, set, getD, length-set}
 use Rattle.words.proofs.Lists.{copy-more, copied-all}
-use Rattle.words.proofs.lay_each.Statement.{statement}
-use Rattle.words.proofs.lay_each.Tie as tie
+use Rattle.copies.proofs.lay_each.Statement.{statement}
+use Rattle.copies.proofs.lay_each.Tie as tie
 
 abbrev Inv-loop : tie.InvT-loop
 Inv-loop src dst₀ i₀ dst i = (i ≤ length src) × (length dst ≡ length dst₀) × (dst ≡ take i src ++ drop i dst₀)

@@ -4,9 +4,9 @@ use mathlib.Core.Path.{refl}
 use native.Mathlib.Omega.{arith}
 use Prim.Native.Nat.{_+_, _-_}
 use lib.ListN.{replicate}
-use Rattle.words.proofs.Lists.{block-laid}
-use Rattle.words.proofs.lay_4.Statement.{statement}
-use Rattle.words.proofs.lay_4.Tie as tie
+use Rattle.copies.proofs.BlockLaws.{block-laid}
+use Rattle.copies.proofs.lay_4.Statement.{statement}
+use Rattle.copies.proofs.lay_4.Tie as tie
 
 add-lay-each : tie.Need-add-lay-each
 add-lay-each c = search needs

@@ -4,10 +4,11 @@ use mathlib.Core.Path.{ap, _∙_}
 use native.Mathlib.Omega.{arith}
 use Prim.Native.Nat.{_-_}
 use lib.ListN.{length}
-use Rattle.words.specs.Bytes.{block}
-use Rattle.words.proofs.Lists.{copy-more, copied-all, block-twice}
-use Rattle.words.proofs.lay_short.Statement.{statement}
-use Rattle.words.proofs.lay_short.Tie as tie
+use Rattle.copies.specs.Blocks.{block}
+use Rattle.words.proofs.Lists.{copy-more, copied-all}
+use Rattle.copies.proofs.BlockLaws.{block-twice}
+use Rattle.copies.proofs.lay_short.Statement.{statement}
+use Rattle.copies.proofs.lay_short.Tie as tie
 
 lay-8-requires : tie.Need-lay-8-requires
 lay-8-requires c κs = search needs
