@@ -1,17 +1,20 @@
-// Step 7: what INS means on a card, and where a command is to act, from INS, P1P2 and P3. Every command gets its place here. Inner functions:
-// they ask that P1P2 and P3 come from bytes. The rules are those of `steps`.
+// Step 7: where a command is to act, from INS, P1P2 and P3 to an address or the refusal. Every command gets its place here, in two steps: `meant`, what INS means
+// on a card and the top bit that it carries; then, of these, `place`, the only function that looks at P1P2: the range test of the 17 bits. Inner functions: they ask
+// that five bytes are there, that an address has 17 bits and that P3 comes from a byte. The rules are those of `steps`.
 
 use chips::Chip;
 use steps::Ranged;
 use words::ADDRESSES;
+use words::wide;
 ghost use mathlib.Core.Path.{_≡_};
 ghost use Prim.Native.Nat.{_+_, _≤_, _<_};
 ghost use lib.Dec.{leb};
+ghost use lib.ListN.{length};
 ghost use Rattle.words.specs.Bounds.{addresses};
 ghost use Rattle.words.specs.Choice.{_⇒_⁏_, _is_};
 ghost use Rattle.chips.specs.Kinds.{facts};
 ghost use Rattle.steps.specs.declared.Ranged.{Ranged};
-ghost use Rattle.steps.specs.Steps.{Write, insOf, seventeen, meant, top, rangeTest, placeOf};
+ghost use Rattle.steps.specs.Steps.{Write, insOf, p1p2, p3, seventeen, meant, top, rangeTest};
 
 // What INS means on a card: the instruction, and the top bit of its address.
 pub struct Meaning {
@@ -105,11 +108,18 @@ fn range_test(chip: Chip, ins: u8, at: usize, p: usize) -> Ranged
     }
 }
 
-// From INS, P1P2 and P3 to the address, or the refusal.
-pub fn place(chip: Chip, ins: u8, at: usize, p: usize) -> Ranged
-    requires { ⌜ (at < addresses) × (p < 256) ⌝ }
-    ensures { λ r. ⌜ r ≡ placeOf (facts chip) (insOf ins) at p ⌝ }
+// P1P2, P1 high.
+fn p1p2(apdu: &[u8]) -> usize
+    requires { ⌜ 5 ≤ length (now apdu) ⌝ }
+    ensures { λ r. ⌜ (r ≡ p1p2 (now (apdu .entry))) × (r < addresses) ⌝ }
 {
-    let meaning = meant(chip, ins);
-    range_test(chip, meaning.ins, meaning.top + at, p)
+    256 * wide(apdu[2]) + wide(apdu[3])
+}
+
+// From the instruction that INS means, the top bit that it carries, P1P2 and P3 to the address, or the refusal.
+pub fn place(chip: Chip, ins: u8, top: usize, apdu: &[u8]) -> Ranged
+    requires { ⌜ (top ≤ addresses) × (5 ≤ length (now apdu)) ⌝ }
+    ensures { λ r. ⌜ r ≡ rangeTest (facts chip) (insOf ins) (top + p1p2 (now (apdu .entry))) (p3 (now (apdu .entry))) ⌝ }
+{
+    range_test(chip, ins, top + p1p2(apdu), wide(apdu[4]))
 }

@@ -1,27 +1,34 @@
--- `place` meets its contract: the range test is asked of what INS means, and of the address with the top bit that INS carries.
+-- `place` meets its contract: the range test is asked of the top bit and P1P2 together, and of P3.
 use borrow.Author.Needs.{needs}
 use mathlib.Core.Path.{ap₂, _∙_}
 use Prim.Native.Nat.{ℕ, _+_}
 use Rattle.chips.specs.Kinds.{facts}
-use Rattle.steps.specs.Steps.{Ins, rangeTest}
+use Rattle.steps.specs.Steps.{insOf, rangeTest}
 use Rattle.places.proofs.place.Statement.{statement}
 use Rattle.places.proofs.place.Tie as tie
 
-meant-requires : tie.Need-meant-requires
-meant-requires c κs = search needs
+p1p2-requires : tie.Need-p1p2-requires
+p1p2-requires c κs = search needs
 
 add-range-test : tie.Need-add-range-test
 add-range-test c = search needs
+
+shared-slice-read-wide : tie.Need-shared-slice-read-wide
+shared-slice-read-wide c = search needs
+
+wide-requires : tie.Need-wide-requires
+wide-requires c κs = search needs
 
 range-test-requires : tie.Need-range-test-requires
 range-test-requires c κs = search needs
 
 returns : tie.Need-returns
 returns c =
-    let at-meant = c .before .before in
-    let a = at-meant .before .args in
+    let at-wide = c .before in
+    let at-p1p2 = at-wide .before .before in
+    let a = at-p1p2 .before .before .args in
     c .range-test .ensures
-    ∙ ap₂ (λ (i : Ins) (t : ℕ). rangeTest (facts (a .chip)) i (t + a .at) (a .p)) (at-meant .meant .ensures .0) (at-meant .meant .ensures .1)
+    ∙ ap₂ (λ (n p : ℕ). rangeTest (facts (a .chip)) (insOf (a .ins)) (a .top + n) p) (at-p1p2 .p1p2 .ensures .0) (at-wide .wide .ensures .0)
 
 pub place-spec : {M : Type 1} → statement M
-place-spec = tie.close (tie.spec meant-requires add-range-test range-test-requires returns)
+place-spec = tie.close (tie.spec p1p2-requires add-range-test shared-slice-read-wide wide-requires range-test-requires returns)
