@@ -133,16 +133,12 @@ pub fn is_sound(slot: Slot, image: &[u8]) -> bool
     counts_sound(slot, image)
 }
 
-// Whether a number is a reader page.
+// Whether a number is a reader page: at least 8, and 0 once its lowest one bit is taken off.
 fn page_size(page: u8) -> bool
     ensures { λ r. ⌜ r ≡ pageSize page ⌝ }
 {
-    match page {
-        8 => true,
-        16 => true,
-        32 => true,
-        64 => true,
-        128 => true,
-        0..=7 | 9..=15 | 17..=31 | 33..=63 | 65..=127 | 129..=255 => false,
+    if page < 8 {
+        return false;
     }
+    page & (page - 1) == 0
 }

@@ -135,6 +135,13 @@ pub beq-self : (b : Bool) → Bool·beq b b ≡ true
 beq-self true = refl
 beq-self false = refl
 
+-- and as no other
+pub beq-same : (a b : Bool) → Bool·beq a b ≡ true → a ≡ b
+beq-same true true e = refl
+beq-same true false e = absurd (false≢true e)
+beq-same false true e = absurd (false≢true e)
+beq-same false false e = refl
+
 -- A return meets a list of tests where one fails, or where one holds and it meets the rest.
 pub and-fails : {a : Bool} (b : Bool) → a ≡ false → false ≡ (a and b)
 unfolding _and_

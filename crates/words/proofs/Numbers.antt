@@ -1,4 +1,4 @@
--- Laws of numbers in bytes, low first.
+-- Laws of numbers in bytes, low first; and a test of every number below one, computed.
 use mathlib.Core.Path.{_≡_, refl, ap, ap₂, _∙_, subst}
 use mathlib.Core.List.{List, [], _∷_, _++_}
 use Prim.Native.Nat.{ℕ, zero, suc, _+_, _-_, _*_, _/_, _%_, _^_, _<_}
@@ -7,8 +7,8 @@ use native.Mathlib.Omega.{arith}
 use lib.ListN.{length, set}
 use lib.Seq.{sets}
 use lib.Dec.{ltb}
-use mathlib.Core.Bool.{Bool, true}
-use borrow.Author.Tests.{ltb-true}
+use mathlib.Core.Bool.{Bool, true, false}
+use borrow.Author.Tests.{ltb-true, ltb-false}
 use Rattle.words.specs.Choice.{_and_}
 use Rattle.words.proofs.Choices.{and-true}
 use Rattle.words.specs.Bytes.{AllBytes, byte, fourAt, eightAt, numberIn, byteOf, lowFirst, series}
@@ -122,3 +122,19 @@ low-number (suc k) (x ∷ l) e b =
     let p : (x % 256 + 256 * numberIn l) % 256 ≡ x = omega (arith, b .fits 0) in
     let q : (x % 256 + 256 * numberIn l) / 256 ≡ numberIn l = omega arith in
     ap₂ (λ (y n : ℕ). y ∷ lowFirst k n) p q ∙ ap (λ (t : List ℕ). x ∷ t) (low-number k l (omega arith) (rest-bytes x l b))
+
+-- ---- a test that the prover computes of every number below n holds of each
+unfoldable pub allBelow : (ℕ → Bool) → ℕ → Bool
+allBelow test zero = true
+allBelow test (suc n) = test n and allBelow test n
+
+pub each-below : (test : ℕ → Bool) (n : ℕ) → allBelow test n ≡ true → (k : ℕ) → k < n → test k ≡ true
+unfolding allBelow
+each-below test zero e k h = absurd (omega arith)
+each-below test (suc n) e k h = go (ltb k n) refl (each-below test n (and-true _ _ e .1) k)
+  where
+    go : (b : Bool) → ltb k n ≡ b → (k < n → test k ≡ true) → test k ≡ true
+    go true t ih = ih (ltb-true k n t)
+    go false t ih =
+        let q : k ≡ n = omega (arith, ltb-false k n t) in
+        ap test q ∙ and-true _ _ e .0
