@@ -2,28 +2,14 @@
 // The rule is written in specs/Images.antt.
 
 use chips::Chip;
+use words::four_at;
 ghost use mathlib.Core.Path.{_≡_};
-ghost use lib.ListN.{drop};
-ghost use Rattle.words.specs.Bytes.{blank};
 ghost use Rattle.chips.specs.Kinds.{facts};
 ghost use Rattle.card.specs.Images.{isCard};
 
-// Whether every byte from k on is 00h.
-fn zero_from(image: &[u8], k: usize) -> bool
-    ensures { λ r. ⌜ r ≡ blank (drop k (now (image .entry))) ⌝ }
-{
-    let mut i = k;
-    while i < image.len() {
-        if image[i] != 0 {
-            return false;
-        }
-        i += 1;
-    }
-    true
-}
-
 // Whether an image is a card of this chip: its length is the chip's, its counter is at most full, the counter's own protection bit is
-// not 0, and the bytes that have to be 00h are. A card without a code has no counter; one with a code has no such bytes.
+// not 0, and the bytes that have to be 00h are. A card without a code has no counter; one with a code has no such bytes. They are the
+// last four.
 pub fn is_card(chip: Chip, image: &[u8]) -> bool
     ensures { λ r. ⌜ r ≡ isCard (facts chip) (now (image .entry)) ⌝ }
 {
@@ -31,7 +17,10 @@ pub fn is_card(chip: Chip, image: &[u8]) -> bool
         return false;
     }
     if !chip.facts().coded {
-        return zero_from(image, chip.facts().zeros);
+        if chip.facts().zeros == chip.facts().size {
+            return true;
+        }
+        return four_at(image, chip.facts().zeros) == 0;
     }
     let at = chip.facts().counter;
     if chip.facts().full < image[at] {

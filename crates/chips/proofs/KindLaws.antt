@@ -29,6 +29,7 @@ pub record Laid (f : Facts) : Type 0 where
   pub words : f .covered % 32 ≡ 0
   pub few : f .covered ≤ 1024
   pub small : f .full < 256
+  pub ends : f .zeros ≤ f .size
 
 pub laid : (chip : Chip) → Laid (facts chip)
 unfolding allOf _and_
@@ -47,6 +48,7 @@ laid chip = record {
   words = eqb-true _ _ (each (λ (f : Facts). f .covered % 32 is 0) refl chip);
   few = leb-true _ _ (each (λ (f : Facts). leb (f .covered) 1024) refl chip);
   small = ltb-true _ _ (each (λ (f : Facts). ltb (f .full) 256) refl chip);
+  ends = leb-true _ _ (each (λ (f : Facts). leb (f .zeros) (f .size)) refl chip);
 }
 
 -- ---- n bytes from k on stand before the protection bytes, or behind those of the first m bytes
@@ -163,8 +165,9 @@ pub pageless-bits : (chip : Chip) → facts chip .page ≡ 0 → 0 < facts chip 
 unfolding allOf _and_ _means_
 pageless-bits chip e = ltb-true _ _ (each-of (λ (f : Facts). f .page is 0) hasBits refl chip (eq-eqb _ 0 e))
 
--- ---- bytes that have to be 00h stand behind memory and protection bytes, on a card without pages; a code card has none (`Coded.filled`)
+-- ---- bytes that have to be 00h are the last four, behind memory and protection bytes, on a card without pages; a code card has none (`Coded.filled`)
 pub record Zeroed (f : Facts) : Type 0 where
+  pub four : f .zeros + 4 ≡ f .size
   pub pageless : f .page ≡ 0
   pub behind : f .memory ≤ f .zeros
   pub beyond : f .bits + (f .reach + 7) / 8 ≤ f .zeros
@@ -175,6 +178,7 @@ hasZeros f = ltb (f .zeros) (f .size)
 pub zeroed : (chip : Chip) → facts chip .zeros < facts chip .size → Zeroed (facts chip)
 unfolding allOf _and_ _means_
 zeroed chip c = record {
+  four = eqb-true _ _ (each-of hasZeros (λ (f : Facts). f .zeros + 4 is f .size) refl chip (lt-ltb _ _ c));
   pageless = eqb-true _ _ (each-of hasZeros (λ (f : Facts). f .page is 0) refl chip (lt-ltb _ _ c));
   behind = leb-true _ _ (each-of hasZeros (λ (f : Facts). leb (f .memory) (f .zeros)) refl chip (lt-ltb _ _ c));
   beyond = leb-true _ _ (each-of hasZeros (λ (f : Facts). leb (f .bits + (f .reach + 7) / 8) (f .zeros)) refl chip (lt-ltb _ _ c));

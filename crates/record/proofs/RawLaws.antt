@@ -1,6 +1,6 @@
 -- Laws of raw records: bytes that are blank, a record that was found, and what is written.
 use mathlib.Core.Path.{_≡_, refl, sym, ap, _∙_}
-use Prim.Native.Nat.{ℕ, _+_, _-_, _*_, _≤_}
+use Prim.Native.Nat.{ℕ, _+_, _-_, _≤_}
 use mathlib.Core.Bool.{Bool, true, false, not, false≢true}
 use mathlib.Core.List.{List, [], _∷_, _++_, append-nil}
 use native.Mathlib.Omega.{arith}
@@ -10,8 +10,8 @@ use lib.Seq.{sets, sets-eq}
 use borrow.Author.Tests.{eq-eqb, ne-eqb, eqb-true, not-false, ltb-false}
 use Rattle.words.specs.Choice.{_and_, _is_, _isnt_}
 use Rattle.words.specs.Bytes.{byte, blank, fourAt, eightAt, lowFirst}
-use Rattle.words.proofs.Choices.{either, and-end, and-fails, and-holds}
-use Rattle.words.proofs.Lists.{sets-snoc, blank-step, sum-zero}
+use Rattle.words.proofs.Choices.{either, and-fails, and-holds}
+use Rattle.words.proofs.Lists.{sets-snoc, sum-zero, blank-four, zero-last}
 use Rattle.slot.specs.declared.Slot.{Slot}
 use Rattle.slot.specs.declared.Holds.{Holds}
 use Rattle.slot.specs.Slots.{removed}
@@ -19,23 +19,7 @@ use Rattle.record.specs.declared.Reading.{Reading}
 use Rattle.record.specs.Raw.{kindOf, stateOf, rawOf, slotFrom, slotWith}
 
 -- ---- blank bytes
--- the number in four bytes, or in eight, is 0 where every byte is
-blank-four : (l : List ℕ) (k : ℕ) → k + 4 ≤ length l → blank (drop k l) ≡ (fourAt l k is 0 and blank (drop (k + 4) l))
-unfolding fourAt
-blank-four l k h =
-    let a = byte l k in
-    let b = byte l (k + 1) in
-    let c = byte l (k + 2) in
-    let d = byte l (k + 3) in
-    let t = blank (drop (k + 4) l) in
-    blank-step l k (k + 1) refl (omega arith)
-    ∙ ap (λ (x : Bool). a is 0 and x) (blank-step l (k + 1) (k + 2) (omega arith) (omega arith))
-    ∙ ap (λ (x : Bool). a is 0 and b is 0 and x) (blank-step l (k + 2) (k + 3) (omega arith) (omega arith))
-    ∙ ap (λ (x : Bool). a is 0 and b is 0 and c is 0 and x) (blank-step l (k + 3) (k + 4) (omega arith) (omega arith))
-    ∙ sum-zero 256 a b (c is 0 and d is 0 and t) (omega arith)
-    ∙ sum-zero 65536 (a + 256 * b) c (d is 0 and t) (omega arith)
-    ∙ sum-zero 16777216 (a + 256 * b + 65536 * c) d t (omega arith)
-
+-- the number in eight bytes is 0 where every byte is
 blank-eight : (l : List ℕ) (k : ℕ) → k + 8 ≤ length l → blank (drop k l) ≡ (eightAt l k is 0 and blank (drop (k + 8) l))
 unfolding eightAt
 blank-eight l k h =
@@ -58,11 +42,7 @@ eight-last l e = omega (arith, e)
 
 -- the last eight of 32 bytes
 pub blank-last : (l : List ℕ) → length l ≡ 32 → eightAt l 24 is 0 ≡ blank (drop 24 l)
-unfolding blank
-blank-last l e =
-    sym (and-end (eightAt l 24 is 0))
-    ∙ sym (ap (λ (x : List ℕ). eightAt l 24 is 0 and blank x) (drop-of-length-le l {i = 32} (omega arith)))
-    ∙ sym (blank-eight l 24 (omega arith))
+blank-last l e = zero-last l 24 8 (eightAt l 24) (blank-eight l 24 (omega arith)) (omega arith)
 
 -- ---- a record that was found
 -- what a reading says

@@ -15,7 +15,7 @@ use borrow.Rule.Slice.PartMut.{putMid}
 use borrow.Author.Tests.{eq-eqb, ne-eqb, eqb-true, ltb-true, ltb-false}
 use Rattle.words.specs.Choice.{_and_, _is_}
 use Rattle.words.specs.Bytes.{byte, blank, same, fourAt, over, series}
-use Rattle.words.proofs.Choices.{and-fails, and-holds, and-true, both}
+use Rattle.words.proofs.Choices.{and-fails, and-holds, and-true, and-end, both}
 
 -- ---- bytes over a buffer
 -- a loop that copies from the front: one turn
@@ -288,6 +288,27 @@ unfolding _and_
 sum-zero n zero zero t h = and-holds (eq-eqb (0 + n * 0) 0 (omega arith)) refl
 sum-zero n zero (suc b) t h = sym (and-fails t (ne-eqb (suc b) 0 (λ e. omega arith))) ∙ and-fails t (ne-eqb (0 + n * suc b) 0 (λ e. omega (arith, mul-suc n b)))
 sum-zero n (suc a) b t h = sym (and-fails (b is 0 and t) (ne-eqb (suc a) 0 (λ e. omega arith))) ∙ and-fails t (ne-eqb (suc a + n * b) 0 (λ e. omega arith))
+
+-- the number in four bytes is 0 where every byte is
+pub blank-four : (l : List ℕ) (k : ℕ) → k + 4 ≤ length l → blank (drop k l) ≡ (fourAt l k is 0 and blank (drop (k + 4) l))
+unfolding fourAt
+blank-four l k h =
+    let a = byte l k in
+    let b = byte l (k + 1) in
+    let c = byte l (k + 2) in
+    let d = byte l (k + 3) in
+    let t = blank (drop (k + 4) l) in
+    blank-step l k (k + 1) refl (omega arith)
+    ∙ ap (λ (x : Bool). a is 0 and x) (blank-step l (k + 1) (k + 2) (omega arith) (omega arith))
+    ∙ ap (λ (x : Bool). a is 0 and b is 0 and x) (blank-step l (k + 2) (k + 3) (omega arith) (omega arith))
+    ∙ ap (λ (x : Bool). a is 0 and b is 0 and c is 0 and x) (blank-step l (k + 3) (k + 4) (omega arith) (omega arith))
+    ∙ sum-zero 256 a b (c is 0 and d is 0 and t) (omega arith)
+    ∙ sum-zero 65536 (a + 256 * b) c (d is 0 and t) (omega arith)
+    ∙ sum-zero 16777216 (a + 256 * b + 65536 * c) d t (omega arith)
+
+-- and so is a number in the last n bytes
+pub zero-last : (l : List ℕ) (k n m : ℕ) → blank (drop k l) ≡ (m is 0 and blank (drop (k + n) l)) → length l ≤ k + n → m is 0 ≡ blank (drop k l)
+zero-last l k n m e h = sym (e ∙ ap (λ (t : Bool). m is 0 and t) (blank-end l (k + n) h) ∙ and-end (m is 0))
 
 -- ---- numbers
 -- the next number has the next remainder, unless it is a multiple
