@@ -3,10 +3,12 @@ use mathlib.Core.Path.{_≡_, refl, sym, ap, ap₂, _∙_}
 use mathlib.Core.List.{List, [], _∷_}
 use mathlib.Core.Bool.{Bool, true, false}
 use mathlib.Core.Logic.{_⊎_, inl, inr, _≢_}
-use Prim.Native.Nat.{ℕ, zero, suc, _+_, _-_, _*_, _/_, _%_, _^_, _≤_, _<_}
-use native.Mathlib.Nat.{pow-suc, mul-comm, mul-assoc, div-div-eq-div-mul}
+use Prim.Native.Nat.{ℕ, zero, suc, _+_, _-_, _*_, _/_, _%_, _^_, _≤_, _<_, min}
+use native.Mathlib.Nat.{pow-suc, mul-comm, mul-assoc, div-div-eq-div-mul, mod-eq-of-lt}
 use native.Mathlib.Omega.{arith}
+use lib.Bits.{bitAnd, and-step, and-mask}
 use lib.Dec.{eqb, ltb}
+use lib.Pow.{pow-lt}
 use lib.ListN.{length, set}
 use lib.Seq.{getD-set-other, getD-set-same, set-out}
 use borrow.Author.Tests.{eqb-true, eqb-false, eq-eqb, ne-eqb, ltb-true, ltb-false}
@@ -27,6 +29,30 @@ unfolding cleared
 clear-half b i =
     let e : bitOf b (suc i) * 2 ^ suc i ≡ bitOf (b / 2) i * 2 ^ i * 2 = rw (bit-half b i, pow-suc 2 i) (sym (mul-assoc _ _ _)) in
     omega (arith, e, bit-counts (b / 2) i)
+
+-- so a mask of k ones but for bit i clears it
+pub and-clears : (k b i : ℕ) → b < 2 ^ k → i < k → bitAnd b (2 ^ k - 1 - 2 ^ i) ≡ cleared b i
+unfolding cleared
+and-clears zero b i small h = absurd (omega arith)
+and-clears (suc k) b zero small h =
+    let p : 2 ^ suc k ≡ 2 ^ k * 2 = pow-suc 2 k in
+    let half : (2 ^ suc k - 1 - 1) / 2 ≡ 2 ^ k - 1 = omega (arith, p) in
+    let last : (2 ^ suc k - 1 - 1) % 2 ≡ 0 = omega (arith, p) in
+    let kept : bitAnd (b / 2) (2 ^ k - 1) ≡ b / 2 = and-mask (b / 2) k ∙ mod-eq-of-lt (omega (arith, p)) in
+    let e = and-step b (2 ^ suc k - 1 - 1) ∙ ap₂ (λ (m x : ℕ). bitAnd (b / 2) m * 2 + min (b % 2) x) half last in
+    omega (arith, e, kept)
+and-clears (suc k) b (suc i) small h =
+    let p : 2 ^ suc k ≡ 2 ^ k * 2 = pow-suc 2 k in
+    let q : 2 ^ suc i ≡ 2 ^ i * 2 = pow-suc 2 i in
+    let below : 2 ^ i < 2 ^ k = pow-lt (omega arith) in
+    let half : (2 ^ suc k - 1 - 2 ^ suc i) / 2 ≡ 2 ^ k - 1 - 2 ^ i = omega (arith, p, q, below) in
+    let last : (2 ^ suc k - 1 - 2 ^ suc i) % 2 ≡ 1 = omega (arith, p, q, below) in
+    let kept : min (b % 2) 1 ≡ b % 2 = omega arith in
+    and-step b (2 ^ suc k - 1 - 2 ^ suc i)
+    ∙ ap₂ (λ (m x : ℕ). bitAnd (b / 2) m * 2 + min (b % 2) x) half last
+    ∙ ap₂ (λ (n x : ℕ). n * 2 + x) (and-clears k (b / 2) i (omega (arith, p)) (omega arith)) kept
+    ∙ ap (λ (n : ℕ). n + b % 2) (mul-comm (cleared (b / 2) i) 2)
+    ∙ sym (clear-half b i)
 
 pub bit-cleared : (b i j : ℕ) → j ≢ i → bitOf (cleared b i) j ≡ bitOf b j
 unfolding cleared

@@ -24,7 +24,7 @@ fn clear(b: u8, i: usize) -> u8
     requires { ⌜ i < 8 ⌝ }
     ensures { λ r. ⌜ r ≡ cleared b i ⌝ }
 {
-    b - (((b >> i) % 2) << i)
+    b & !(1u8 << i)
 }
 
 // Whether byte k is protected.
