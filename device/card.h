@@ -29,7 +29,7 @@ struct card {
 /* The kind of that name, or none. */
 const struct kind *kind_named(const char *name);
 
-/* All names, a blank behind each, as they are told where one is wrong. */
+/* All names, apart by blanks, as they are told where one is wrong. */
 const char *kind_names(void);
 
 /* A new card: every byte FFh but those that it answers to reset, nothing protected, all tries left, a code of FFh. */
@@ -41,8 +41,8 @@ size_t card_read(struct card *card, char *text, size_t length, char why[WHY_MOST
 /* The text of a card, at most TEXT_MOST bytes: its length. */
 size_t card_write(const struct card *card, char *text);
 
-/* The protected bytes of a card as ranges, `0000..0003,0010` or `none`, into a text of so many bytes, with `..` at its end
- * where they are too many. The place of the first byte that is not told, or the number of bytes with a bit. */
+/* The protected bytes of a card from a place on as ranges, `0000..0003,0010`, or from 0 on `none`: as many ranges as fit into a
+ * text of so many bytes. The place of the first byte that is not told, or the number of bytes with a bit. */
 size_t card_protected(const struct card *card, size_t from, char *text, size_t room);
 
 #endif

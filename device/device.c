@@ -108,7 +108,8 @@ static int32_t escape(const uint8_t *message, uint8_t *answer)
     return HEADER + sizeof version - 1;
 }
 
-/* Has on the disk what the card holds now. Where that cannot be, there is no answer, and the card is the one before. */
+/* Has on the disk what the card holds now. Where that cannot be, there is no answer: the file has the card before the message, or
+ * after it where only the folder could not be synced. */
 static void keep(void)
 {
     char why[5000];
@@ -116,6 +117,7 @@ static void keep(void)
         die("%s: the card could not be kept, so the message is not answered", why);
 }
 
+/* Hands a message to the reader, keeps the card, and answers; an escape message is answered here. */
 static void serve(const uint8_t *message, size_t length)
 {
     static uint8_t answer[CARD_READER_ROOM];

@@ -74,8 +74,10 @@ int store_open(struct store *store, const char *path, char *why, size_t room)
     ssize_t length;
     size_t line;
     int file;
-    if (realpath(path, whole) == NULL || strlen(whole) + sizeof ".new" > sizeof store->path)
+    if (realpath(path, whole) == NULL)
         return fails(why, room, path, strerror(errno));
+    if (strlen(whole) + sizeof ".new" > sizeof store->path)
+        return fails(why, room, path, strerror(ENAMETOOLONG));
     file = open(whole, O_RDWR | O_CLOEXEC);
     if (file < 0)
         return fails(why, room, path, strerror(errno));
