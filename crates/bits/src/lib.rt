@@ -1,6 +1,7 @@
 // Protection bits of a lent image, over plain numbers: the protection bytes start at `bits` and hold a bit for each of the first `covered`
 // memory bytes. Inner functions: each asks that the bits lie in the image and that what it writes fits the lent buffer.
 // The rules are written in specs/Bits.antt.
+#![tactic(auto)]
 
 ghost use Rattle.std.specs.Prelude.{◌≡◌, ◌+◌, ◌-◌, ◌*◌, ◌/◌, ◌%◌, ◌^◌, ◌≤◌, ◌<◌, length};
 ghost use Rattle.words.specs.Bounds.{addresses};
@@ -12,7 +13,7 @@ use copies::lay;
 use words::{eight_at, four_at, least, put_eight, wide};
 
 // Where a search ended.
-#[derive(Drop)]
+#[derive(Clone, Copy)]
 pub enum Place {
     At(usize),
     Nowhere,

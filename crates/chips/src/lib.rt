@@ -1,12 +1,13 @@
 // The kinds of card: their chips, and the numbers of each as one row.
 // No function has a `requires`. The table is written in specs/Kinds.antt, and this is that table once more, as code.
+#![tactic(auto)]
 
 ghost use Rattle.std.specs.Prelude.{◌≡◌};
 ghost use Rattle.chips.specs.Kinds.{i2c, without_code, facts, chip_of};
 
 // The chips of the kinds, by what they have: memory alone, then protection bits, then a code too, the two of type 06h side by side. Whether
 // a card has one of them is then a range of cases, which compiles to a comparison.
-#[derive(Drop)]
+#[derive(Clone, Copy)]
 pub enum Chip {
     I2c1,
     I2c2,
@@ -26,14 +27,14 @@ pub enum Chip {
 }
 
 // The chip of a kind byte.
-#[derive(Drop)]
+#[derive(Clone, Copy)]
 pub enum Known {
     Is(Chip),
     Unknown,
 }
 
 // What is known of a kind of card: a row of the table.
-#[derive(Drop)]
+#[derive(Clone, Copy)]
 pub struct Facts {
     // The paper's number for the kind.
     pub kind: u8,

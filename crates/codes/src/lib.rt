@@ -1,5 +1,6 @@
 // The counter and the code of a lent image, over plain numbers: a try is spent, and then the codes are compared.
 // Inner functions: those on an image ask that counter and code lie in it. The rules are written in specs/: Counters, Codes.
+#![tactic(auto)]
 
 ghost use Rattle.std.specs.Prelude.{◌≡◌, ◌+◌, ◌≤◌, ◌<◌, length};
 ghost use Rattle.words.specs.Bytes.{same};

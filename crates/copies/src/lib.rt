@@ -1,5 +1,6 @@
 // Bytes copied by blocks: a block is read whole and then laid, of which the compiler makes wide loads and stores, and calls nothing. Inner functions: each asks that
 // the bytes fit. What a block is stands in specs/Blocks.antt.
+#![tactic(auto)]
 
 ghost use Rattle.std.specs.Prelude.{◌≡◌, ◌+◌, ◌≤◌, ◌<◌, length};
 ghost use Rattle.words.specs.Bytes.{over};

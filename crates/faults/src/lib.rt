@@ -8,7 +8,7 @@ use slot::Slot;
 use words::four_at;
 
 // What is wrong with a message, first fault first; Clear where nothing is.
-#[derive(Drop)]
+#[derive(Clone, Copy)]
 pub enum Fault {
     Clear,
     // An unsupported type.

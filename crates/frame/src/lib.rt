@@ -15,7 +15,7 @@ use faults::{Fault, is_clear};
 use slot::Slot;
 
 // Why a call is turned down: the numbers 1 to 5 of the rules.
-#[derive(Drop)]
+#[derive(Clone, Copy)]
 pub enum Refusal {
     Buffer,
     Message,
@@ -24,14 +24,14 @@ pub enum Refusal {
     Occupied,
 }
 
-#[derive(Drop)]
+#[derive(Clone, Copy)]
 pub enum Verdict {
     // How long the answer is.
     Answered(usize),
     Refused(Refusal),
 }
 
-#[derive(Drop)]
+#[derive(Clone, Copy)]
 pub struct Reply {
     pub verdict: Verdict,
     pub slot: Slot,

@@ -10,7 +10,7 @@ use libc::STDIN_FILENO;
 use records::Record;
 
 // The record that stands first among the unused bytes of the buffer, and where these lie.
-#[derive(Drop)]
+#[derive(Clone, Copy)]
 pub struct Brought {
     pub found: Record,
     pub at: usize,

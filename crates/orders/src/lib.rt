@@ -16,14 +16,14 @@ use steps::Status;
 use words::put_two;
 
 // What a handler tells: how many bytes it said, and the next slot record.
-#[derive(Drop)]
+#[derive(Clone, Copy)]
 pub struct Told {
     pub len: usize,
     pub slot: Slot,
 }
 
 // A status word.
-#[derive(Drop)]
+#[derive(Clone, Copy)]
 struct Word {
     high: u8,
     low: u8,

@@ -14,7 +14,7 @@ use steps::Ranged;
 use words::{ADDRESSES, wide};
 
 // What INS means on a card: the instruction, and the top bit of its address.
-#[derive(Drop)]
+#[derive(Clone, Copy)]
 pub struct Meaning {
     pub ins: u8,
     pub top: usize,

@@ -13,7 +13,7 @@ use sitting::Held;
 use words::{LARGEST_HELD, LINE, ROOM};
 
 // A record that is done and told: what is held now, and the length of its line.
-#[derive(Drop)]
+#[derive(Clone, Copy)]
 pub struct Turned {
     pub held: Held,
     pub len: usize,

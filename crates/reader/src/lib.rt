@@ -12,7 +12,7 @@ use frame::{Refusal, Reply, Verdict};
 use slot::Slot;
 
 // What a message means, by tests 1 and 2, which look at no slot.
-#[derive(Drop)]
+#[derive(Clone, Copy)]
 pub enum Meant {
     Refused(Refusal),
     // The slot that b_slot names.

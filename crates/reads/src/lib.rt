@@ -1,6 +1,7 @@
 // What is read of a lent image, over plain numbers: bytes, with the code blanked while the card is closed, and the counter.
 // Inner functions: each asks that its range lies in the image and that what it writes fits the lent buffer.
 // The rules are written in specs/Reads.antt.
+#![tactic(auto)]
 
 ghost use Rattle.std.specs.Prelude.{◌≡◌, ◌+◌, ◌≤◌, ◌<◌, length, take, drop};
 ghost use Rattle.words.specs.Bytes.{over};

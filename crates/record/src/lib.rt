@@ -14,7 +14,7 @@ use slot::{Holds, Slot};
 use words::{byte_at, eight_at, put_eight};
 
 // What a raw record is read as.
-#[derive(Drop)]
+#[derive(Clone, Copy)]
 pub enum Reading {
     // A slot; whether it is sound is seen beside the image.
     Found(Slot),

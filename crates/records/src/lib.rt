@@ -1,5 +1,6 @@
 // The records of a session: a two-byte mark, a length (2 bytes, low first), a body. Each is read from a slice at a place, without a copy.
 // No public function has a `requires`: any bytes and any place have their one reading.
+#![tactic(auto)]
 
 ghost use Rattle.std.specs.Prelude.{◌≡◌};
 ghost use Rattle.records.specs.Records.{mark_of, most, record_at};
@@ -7,7 +8,7 @@ ghost use Rattle.records.specs.Records.{mark_of, most, record_at};
 use words::{LARGEST_HELD, wide};
 
 // What a record does.
-#[derive(Drop)]
+#[derive(Clone, Copy)]
 pub enum Mark {
     Insert,
     Remove,
@@ -15,14 +16,14 @@ pub enum Mark {
 }
 
 // The mark of two bytes.
-#[derive(Drop)]
+#[derive(Clone, Copy)]
 pub enum Marked {
     Is(Mark),
     Other,
 }
 
 // What stands at a place.
-#[derive(Drop)]
+#[derive(Clone, Copy)]
 pub enum Record {
     // A whole record: its body starts at start and ends before end, which is the place of the next one.
     Whole {

@@ -1,5 +1,6 @@
 // Slot parameters: a set is a protocol number with its bytes, 0 with 5, 1 with 7, kept as one number. No function that is used elsewhere has a
 // `requires` but the one that writes into a lent buffer: any number has its answer. The rules are written in specs/Sets.antt.
+#![tactic(auto)]
 
 ghost use Rattle.std.specs.Prelude.{◌≡◌, ◌≤◌, ◌<◌, length, leb};
 ghost use Rattle.words.specs.Choice.{◌or◌, ◌is◌};

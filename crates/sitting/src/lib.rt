@@ -12,14 +12,14 @@ use slot::Slot;
 use words::{LARGEST_HELD, ROOM, least};
 
 // What is held from record to record: the slot record, and how many bytes of the lent image are the card's.
-#[derive(Drop)]
+#[derive(Clone, Copy)]
 pub struct Held {
     pub slot: Slot,
     pub size: usize,
 }
 
 // A record that is done: its number, the length of its answer, and what is held now.
-#[derive(Drop)]
+#[derive(Clone, Copy)]
 pub struct Done {
     pub number: u8,
     pub len: usize,

@@ -7,14 +7,14 @@ ghost use Rattle.slot.specs.Slots.{occupied, own_type, page_after, slotted, inse
 use chips::Chip;
 
 // The slot holds nothing or a card of one kind; its image stays beside it.
-#[derive(Drop)]
+#[derive(Clone, Copy)]
 pub enum Holds {
     Empty,
     Card(Chip),
 }
 
 // The order of the fields is the cheapest that was measured.
-#[derive(Drop)]
+#[derive(Clone, Copy)]
 pub struct Slot {
     // The parameters: a number that is read by crate sets.
     pub set: usize,

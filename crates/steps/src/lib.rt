@@ -10,7 +10,7 @@ use chips::Chip;
 use slot::Slot;
 
 // The status words that refuse a command.
-#[derive(Drop)]
+#[derive(Clone, Copy)]
 pub enum Status {
     Length,
     Class,
@@ -22,14 +22,14 @@ pub enum Status {
 }
 
 // What step 7 makes of INS, P1P2 and P3: the address, 17 bits wide, or 6B 00.
-#[derive(Drop)]
+#[derive(Clone, Copy)]
 pub enum Ranged {
     At(usize),
     Outside,
 }
 
 // What the nine steps end in.
-#[derive(Drop)]
+#[derive(Clone, Copy)]
 pub enum Order {
     Refuse(Status),
     Select,

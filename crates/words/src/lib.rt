@@ -1,5 +1,6 @@
 // Bytes: read, compared, put. Inner functions; no answer of the reader is decided here.
 // Each says the one result it gives; those that write into a lent buffer ask that the bytes fit.
+#![tactic(auto)]
 
 ghost use Rattle.std.specs.Prelude.{◌≡◌, ◌+◌, ◌≤◌, ◌<◌, min, length, set};
 ghost use Rattle.std.proofs.lemmas.List.Edits.{sets};

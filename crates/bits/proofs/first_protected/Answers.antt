@@ -1,0 +1,39 @@
+use mathlib.Core.Path.{◌≡◌, sym, ap, ◌∙◌}
+use native.Mathlib.Omega.{arith}
+use Prim.Native.Nat.{ℕ, ◌-◌, ◌≤◌}
+use Rattle.bits.specs.Bits.{first_protected}
+use Rattle.bits.proofs.ProtectionLaws.{first_none, first_here, first_covered, first_past}
+use Rattle.bits.proofs.first_protected.Goals as goal
+
+pub loop-k-init : goal.loop-k-init
+loop-k-init c =
+    let a = c.args in (
+      omega arith,
+      first_covered a.bits a.covered a.image.now a.«from» a.n
+          ∙ ap (λ (to : ℕ). first_protected a.bits a.covered a.image.now a.«from» (to - a.«from»)) (sym c.least-to.ensures),
+    )
+
+pub overflow_add-k : goal.overflow_add-k
+overflow_add-k c = omega (arith, c.free_from-free.ensures.few)
+
+pub loop-k-smaller : goal.loop-k-smaller
+loop-k-smaller c = omega arith
+
+pub loop-k-preserved : goal.loop-k-preserved
+loop-k-preserved c =
+    let l = c.loop-k in
+    let a = c.args in
+    let free = c.free_from-free in
+    (l.invariant.0, l.invariant.1 ∙ first_past a.bits a.covered a.image.now l.k _ free.result free.ensures.free)
+
+pub returns-then-to-k : goal.returns-then-to-k
+returns-then-to-k c =
+    let l = c.loop-k in
+    let a = c.args in
+    sym (l.invariant.1 ∙ first_none a.bits a.covered a.image.now l.k _ (omega arith))
+
+pub returns-then-free-eq0 : goal.returns-then-free-eq0
+returns-then-free-eq0 c =
+    let l = c.loop-k in
+    let a = c.args in
+    sym (l.invariant.1 ∙ first_here a.bits a.covered a.image.now l.k _ (omega arith) (c.free_from-free.ensures.none c.if-free-eq0.true))

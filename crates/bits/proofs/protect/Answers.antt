@@ -1,0 +1,67 @@
+use mathlib.Core.Path.{◌≡◌, refl, sym, ap, ◌∙◌}
+use native.Mathlib.Omega.{arith}
+use Prim.Native.Nat.{ℕ, ◌+◌, ◌-◌, ◌≤◌}
+use lib.ListN.{length, drop}
+use mathlib.Core.List.{List}
+use Rattle.words.proofs.Choices.{taken}
+use mathlib.Core.Logic.{⊎_elim}
+use native.Mathlib.Nat.{add-zero}
+use Rattle.bits.specs.Bits.{protected_count, protecting, protect_equal}
+use Rattle.bits.proofs.ProtectionLaws.{length_protecting, equal_hit, equal_miss, equal_end}
+use Rattle.bits.proofs.CountLaws.{count_protecting}
+use Rattle.bits.proofs.protect.Goals as goal
+
+pub loop-i-init : goal.loop-i-init
+loop-i-init c =
+    let a = c.args in (
+      omega arith,
+      refl,
+      ap (λ (m : ℕ). protect_equal a.bits a.covered a.image.now m a.«data».now) (sym (add-zero a.at)),
+      omega arith,
+      omega arith,
+    )
+
+pub overflow_add-more : goal.overflow_add-more
+overflow_add-more c = omega (arith, c.protect_one-more.ensures.1)
+
+pub loop-i-preserved : goal.loop-i-preserved
+loop-i-preserved c =
+    let a = c.args in
+    let l = c.loop-i in
+    let k : ℕ = a.at + l.i in
+    let whole : List ℕ → List ℕ = λ t. protect_equal a.bits a.covered t (a.at + (l.i + 1)) (drop (l.i + 1) a.«data».now) in
+    ⊎_elim
+    (λ w.
+    let left : c.if-image-k.image ≡ protecting a.bits a.covered l.image k = w.5 ∙ w.2.ensures.0 in
+    let more : c.if-image-k.more ≡ l.more + w.2.result = w.6 in (
+      omega arith,
+      ap length left ∙ length_protecting a.bits a.covered l.image k ∙ l.invariant.1,
+      l.invariant.2 ∙ equal_hit a.bits a.covered l.image a.at l.i a.«data».now (omega arith) w.0.taken ∙ ap whole (sym left),
+      omega (
+        arith,
+        ap (protected_count a.bits a.covered) left,
+        count_protecting a.bits a.covered l.image k (omega arith) (omega arith) (omega (arith, l.invariant.1)),
+        w.2.ensures.1,
+        l.invariant.3,
+        more,
+      ),
+      omega (arith, w.2.ensures.1, l.invariant.4, more),
+    ))
+    (λ w. (
+      omega arith,
+      ap length w.1 ∙ l.invariant.1,
+      l.invariant.2 ∙ equal_miss a.bits a.covered l.image a.at l.i a.«data».now (omega arith) w.0.left ∙ ap whole (sym w.1),
+      omega (arith, ap (protected_count a.bits a.covered) w.1, l.invariant.3, w.2),
+      omega (arith, l.invariant.4, w.2),
+    ))
+    c.if-image-k.branch
+
+pub returns : goal.returns
+returns c =
+    let a = c.args in
+    let l = c.loop-i in
+    let e : l.i ≡ length a.«data».now = omega arith in (
+      sym (l.invariant.2 ∙ ap (λ (k : ℕ). protect_equal a.bits a.covered l.image (a.at + k) (drop k a.«data».now)) e
+          ∙ equal_end a.bits a.covered l.image (a.at + length a.«data».now) a.«data».now),
+      (l.invariant.3, omega (arith, l.invariant.4)),
+    )

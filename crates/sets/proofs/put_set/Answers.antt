@@ -1,0 +1,46 @@
+use mathlib.Core.Path.{◌≡◌, refl, sym, ap, ap₂, ◌∙◌}
+use mathlib.Core.List.{List}
+use native.Mathlib.Nat.{add_comm}
+use native.Mathlib.Omega.{arith}
+use Prim.Native.Nat.{ℕ, ◌-◌, ◌≤◌, ◌<◌}
+use lib.ListN.{length, set, length-set}
+use Rattle.words.specs.Bytes.{over, byte_of, series}
+use Rattle.words.proofs.Lists.{over_none, length_series, series_more}
+use Rattle.sets.specs.Sets.{length_of}
+use Rattle.sets.proofs.SetLaws.{length_short}
+use Rattle.sets.proofs.put_set.Goals as goal
+
+pub loop-i-init : goal.loop-i-init
+unfolding series
+loop-i-init c = (omega arith, refl, sym (over_none _))
+
+pub bounds-out-i : goal.bounds-out-i
+bounds-out-i c =
+    let l = c.loop-i in
+    let n = c.length_of-n.ensures in
+    let start = c.before.before.before.before.before in
+    omega (arith, l.invariant.0, l.invariant.1, n, length_short start.args.set, start.requires)
+
+pub loop-i-preserved : goal.loop-i-preserved
+loop-i-preserved c =
+    let l = c.loop-i in
+    let a = c.args in
+    let n = c.length_of-n.ensures in
+    let start = c.before.before.before.before.before in
+    let h : l.i < length a.out.now = omega (arith, n, length_short a.set, start.requires) in (
+      omega arith,
+      simp length-set l.invariant.1,
+      ap₂ (λ (t : List ℕ) (x : ℕ). set t l.i x) l.invariant.2 (c.byte_of.ensures ∙ ap (byte_of a.set) (add_comm l.i 1))
+          ∙ series_more (byte_of a.set) 1 l.i a.out.now h,
+    )
+
+pub returns : goal.returns
+returns c =
+    let l = c.loop-i in
+    let a = c.args in
+    let n = c.length_of-n.ensures in
+    let e : l.i ≡ length_of a.set = omega (arith, n) in (
+      n ∙ sym (length_series (byte_of a.set) 1 (length_of a.set)),
+      l.invariant.2 ∙ ap (λ (k : ℕ). over (series (byte_of a.set) 1 k) a.out.now) e,
+      omega (arith, n, length_short a.set),
+    )
