@@ -1,5 +1,6 @@
 // The lines of a session, put into a lent buffer: a word, a number, and of an answered message the answer in hex.
 // Inner functions: each says how many bytes it put and every byte of the buffer, and asks that they fit.
+#![tactic(auto)]
 
 ghost use Rattle.std.specs.Prelude.{◌≡◌, ◌+◌, ◌*◌, ◌≤◌, ◌<◌, length};
 ghost use Rattle.lines.specs.Lines.{digit_of, hex, word, shows, ending, line, Puts};

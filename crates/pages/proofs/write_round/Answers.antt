@@ -29,7 +29,7 @@ cut-before c =
     rw c.cut_start-start.ensures (cut_le a.reader l.start (a.at + l.i) (omega arith))
 
 pub landing-to-requires : goal.landing-to-requires
-landing-to-requires c = (omega arith, omega arith, cut-before c, omega arith)
+landing-to-requires c = (omega arith, omega arith, cut-before (goal.at.landing-to-requires c).After-cut_start-start, omega arith)
 
 -- something is left of the reader page, and of the chip page
 left-reader : (c : After-landing-to)
@@ -47,10 +47,10 @@ left-chip c =
     mod-lt c.landing-to.result (omega arith)
 
 pub overflow_sub-reader : goal.overflow_sub-reader
-overflow_sub-reader c = omega (arith, left-reader c)
+overflow_sub-reader c = omega (arith, left-reader (goal.at.overflow_sub-reader c).After-landing-to)
 
 pub overflow_sub-chip : goal.overflow_sub-chip
-overflow_sub-chip c = omega (arith, left-chip c)
+overflow_sub-chip c = omega (arith, left-chip (goal.at.overflow_sub-chip c).After-landing-to)
 
 pub overflow_add-end : goal.overflow_add-end
 overflow_add-end c = omega (arith, c.least.ensures)
@@ -61,13 +61,13 @@ run-reader : (c : After-least)
     c.args.reader + c.least.result ≤
     c.args.reader
 run-reader c =
-    omega (arith, c.least.ensures, c.least-page.ensures, left-reader c.before.before)
+    omega (arith, c.least.ensures, c.least-page.ensures, left-reader (goal.at.After-least c).After-landing-to)
 
 run-chip : (c : After-least)
     → c.landing-to.result % c.args.chip + c.least.result ≤
     c.args.chip
 run-chip c =
-    omega (arith, c.least.ensures, c.least-page.ensures, left-chip c.before.before)
+    omega (arith, c.least.ensures, c.least-page.ensures, left-chip (goal.at.After-least c).After-landing-to)
 
 run_inside : (c : After-least) → c.landing-to.result + c.least.result ≤ length c.loop-i.image
 run_inside c =
@@ -79,8 +79,8 @@ run_inside c =
     let whole : n % a.chip ≡ 0 = start.requires.3.whole in
     let cut = c.cut_start-start.result in
     let to : c.landing-to.result < n =
-    rw c.landing-to.ensures (lands_inside a.chip cut (a.at + l.i) n (omega arith) (cut-before c.before.before.before) (omega arith) whole) in
-    rw e (page_inside a.chip c.landing-to.result c.least.result n (omega arith) to whole (run-chip c))
+    rw c.landing-to.ensures (lands_inside a.chip cut (a.at + l.i) n (omega arith) (cut-before (goal.at.After-least c).After-cut_start-start) (omega arith) whole) in
+    rw e (page_inside a.chip c.landing-to.result c.least.result n (omega arith) to whole (run-chip (goal.at.After-least c).After-least))
 
 pub store-requires : goal.store-requires
 store-requires c =
@@ -93,7 +93,7 @@ store-requires c =
       arith,
       length-take-le k part (omega
           (arith, length-drop i start.args.«data».now, c.least.ensures)),
-      run_inside c.before.before,
+      run_inside (goal.at.store-requires c).After-least,
     )
 
 -- the lesser of two that are some is some
@@ -104,11 +104,11 @@ some-min m n p q = omega arith
 run-some : (c : After-least) → 0 < c.least.result
 run-some c =
     let page : 0 < c.least-page.result =
-    rw c.least-page.ensures (some-min _ _ (omega (arith, left-reader c.before.before)) (omega (arith, left-chip c.before.before))) in
+    rw c.least-page.ensures (some-min _ _ (omega (arith, left-reader (goal.at.After-least c).After-landing-to)) (omega (arith, left-chip (goal.at.After-least c).After-landing-to))) in
     rw c.least.ensures (some-min _ _ page (omega arith))
 
 pub loop-i-smaller : goal.loop-i-smaller
-loop-i-smaller c = closer _ _ _ (omega arith) (run-some c.before.before.before.before.before)
+loop-i-smaller c = closer _ _ _ (omega arith) (run-some (goal.at.loop-i-smaller c).After-least)
 
 pub loop-i-preserved : goal.loop-i-preserved
 loop-i-preserved c =
@@ -122,15 +122,15 @@ loop-i-preserved c =
     let e : l.i + k - l.i ≡ k = omega arith in
     let to : d.landing-to.result ≡ lands a.chip (cut_start a.reader l.start (a.at + l.i)) (a.at + l.i) =
     d.landing-to.ensures ∙ ap (λ (n : ℕ). lands a.chip n (a.at + l.i)) d.cut_start-start.ensures in
-    let stored : c.store.new.0 ≡ sets l.image d.landing-to.result (take k (drop l.i a.«data».now)) =
+    let stored : c.store.new.image ≡ sets l.image d.landing-to.result (take k (drop l.i a.«data».now)) =
     c.store.ensures ∙ ap (λ (n : ℕ). sets l.image d.landing-to.result
     (take n (drop l.i a.«data».now))) e in (
       omega (arith, d.least.ensures),
-      omega (arith, cut-before d.before.before.before),
+      omega (arith, cut-before (goal.at.loop-i-preserved c).After-cut_start-start),
       ap length stored ∙ length-sets l.image d.landing-to.result (take k (drop l.i a.«data».now)) ∙ l.invariant.2,
       l.invariant.3
           ∙ write_run a.reader a.chip l.image l.start a.at l.i k a.«data».now (omega arith) (omega (arith, d.least.ensures))
-          (run-reader d) (omega (arith, ap (λ (n : ℕ). n % a.chip) to, run-chip d))
+          (run-reader (goal.at.loop-i-preserved c).After-least) (omega (arith, ap (λ (n : ℕ). n % a.chip) to, run-chip (goal.at.loop-i-preserved c).After-least))
           ∙ rw (stored, ← d.cut_start-start.ensures, ← d.landing-to.ensures),
     )
 

@@ -13,7 +13,7 @@ pub loop-i-preserved : goal.loop-i-preserved
 loop-i-preserved c =
     let l = c.loop-i in
     let a = c.args in
-    let e : c.blank_one.new.1.1.1.0 ≡ blanked a.at a.end a.code (l.i + 1) a.out.now =
+    let e : c.blank_one.new.out ≡ blanked a.at a.end a.code (l.i + 1) a.out.now =
     c.blank_one.ensures ∙ ap (blank_one a.at a.end (a.code + l.i)) l.invariant.2 ∙ sym (blanked_more a.at a.end a.code l.i a.out.now) in
     (omega arith, ap length e ∙ length_blanked a.at a.end a.code (l.i + 1) a.out.now, e)
 
