@@ -1,5 +1,6 @@
 // The slot record and its changes. No function has a `requires`: any record, however made, has its answer.
 // Each change is written in specs/Slots.antt.
+#![tactic(auto)]
 
 ghost use Rattle.std.specs.Prelude.{◌≡◌};
 ghost use Rattle.slot.specs.Slots.{occupied, own_type, page_after, slotted, inserted, removed, powered, selecting, paged, open_as, opened, closed, set_as, defaulted, tries_as, protected_as};

@@ -34,7 +34,7 @@ on1 : (c : Else-not-fits_length) {z : ℕ} → let a = c.args in z ≡ from2 a.s
 unfolding fault_at
 on1 c h =
     let a = c.args in
-    passed _ (ap not (sym (c.fits_length.ensures ∙ ap (λ (p : ℕ). fits_length p a.n) c.byte_of-protocol.ensures) ∙ c.if-not-fits_length.false) h
+    passed _ (ap not (sym (c.fits_length.ensures ∙ ap (λ (p : ℕ). fits_length p a.n) c.byte_of-protocol.ensures) ∙ c.if-not-fits_length.false)) h
 
 on2 : (c : Else-reserved) {z : ℕ} → let a = c.args in z ≡ from3 a.set → z ≡ fault_at a.set a.n
 on2 c h =
@@ -66,7 +66,7 @@ pub returns-then-not-fits_length : goal.returns-then-not-fits_length
 unfolding fault_at
 returns-then-not-fits_length c =
     let a = c.args in
-    taken _ (ap not (sym (c.fits_length.ensures ∙ ap (λ (p : ℕ). fits_length p a.n) c.byte_of-protocol.ensures) ∙ c.if-not-fits_length.true)
+    taken _ (ap not (sym (c.fits_length.ensures ∙ ap (λ (p : ℕ). fits_length p a.n) c.byte_of-protocol.ensures) ∙ c.if-not-fits_length.true))
 
 pub returns-then-reserved : goal.returns-then-reserved
 returns-then-reserved c =
