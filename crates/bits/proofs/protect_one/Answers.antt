@@ -9,4 +9,4 @@ pub returns : goal.returns
 unfolding protecting
 returns c =
     let a = c.args in
-    (ap (set a.image.now (a.bits + a.k / 8)) c.clear.ensures, c.wide.ensures.0)
+    record { image = ap (set a.image.now (a.bits + a.k / 8)) c.clear.ensures; more = c.wide.ensures.0 }

@@ -14,7 +14,8 @@ abbrev pub decreases-loop-j : goal.decreases-loop-j
 decreases-loop-j l = l.n - l.j
 
 abbrev pub invariant-loop-j-2 : goal.invariant-loop-j-2
-invariant-loop-j-2 l = invariant-loop
+invariant-loop-j-2 l =
+    (l.j ≤ l.n) × (length l.out ≡ length l.initial.out) × (l.out ≡ over (series (λ (i : ℕ). packed l.bits l.covered l.image (l.at + 8 * i) 8) 0 l.j) l.initial.out)
 
 abbrev pub decreases-loop-j-2 : goal.decreases-loop-j-2
-decreases-loop-j-2 l = decreases-loop
+decreases-loop-j-2 l = l.n - l.j

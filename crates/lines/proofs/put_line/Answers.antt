@@ -14,7 +14,7 @@ slice_bounds-put_rest-start c = simp length-set (omega (arith, c.put_word-n.auto
 pub put_rest-more-requires : goal.put_rest-more-requires
 put_rest-more-requires c =
     let w = c.put_word-n in
-    rw (length_tail, length-set) (omega (arith, w.auto.1.0, w.ensures.1))
+    rw (length_tail, length-set) (omega (arith, w.auto.out, w.ensures.1))
 
 pub returns : goal.returns
 returns c =
@@ -24,7 +24,7 @@ returns c =
     line_whole a.mark a.number a.answer.now (omega (arith, w.1)) w.0 c.shown-show.ensures r
 
 pub overflow_add-result : goal.overflow_add-result
-overflow_add-result c = omega (arith, (returns c).ranges)
+overflow_add-result c = omega (arith, (returns c).fits)
 
 pub shape_of-out : goal.shape_of-out
 shape_of-out c = puts_length (returns c)

@@ -37,7 +37,7 @@ returns-then-show c =
     (rest_whole a.answer.now h.result (omega arith) (rest_shown a.answer.now a.out.now (omega arith) h.ensures))
 
 pub shape_of-out-then-show : goal.shape_of-out-then-show
-shape_of-out-then-show c = puts_length (returns c)
+shape_of-out-then-show c = puts_length (returns-then-show c)
 
 pub returns : goal.returns
 returns c =
