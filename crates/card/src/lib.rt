@@ -1,5 +1,6 @@
 // Which images are a card of a kind: number 3 of what is turned down. No function has a `requires`.
 // The rule is written in specs/Images.antt.
+#![tactic(auto)]
 
 ghost use Rattle.std.specs.Prelude.{◌≡◌};
 ghost use Rattle.chips.specs.Kinds.{facts};

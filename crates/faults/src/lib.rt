@@ -1,5 +1,6 @@
 // What is wrong with a message, first fault first. Inner functions: those that look into a message ask that a header is there.
 // The rules are written in specs/Faults.antt: a table for each fault, a line for each type, and the chain `fault_of`.
+#![tactic(auto)]
 
 ghost use Rattle.std.specs.Prelude.{◌≡◌, ◌≤◌, length};
 ghost use Rattle.faults.specs.Faults.{SetParameters, PowerOn, Transfer, request_of, supported, data_fits, bad_field, ready, fault_of, is_clear};

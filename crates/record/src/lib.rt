@@ -2,6 +2,7 @@
 // bytes of the parameters, tries left, number of protected bytes in two, low first, whether the page was chosen (0 or 1), the rest 00h.
 // Any bytes at all may come as a record. No offered function has a `requires`: each has its one result for every input.
 // The rules are written in specs/Raw.antt.
+#![tactic(auto)]
 
 ghost use Rattle.std.specs.Prelude.{◌≡◌, ◌≤◌, length, drop, replicate};
 ghost use Rattle.std.proofs.lemmas.List.Edits.{sets};

@@ -1,6 +1,7 @@
 // Storing bytes into a lent image but where they are protected, with the report whether each byte of the range ended equal to the one sent.
 // An inner function: it asks that its range lies before the protection bytes, and these in the image. The rules are written in
 // specs/Stores.antt.
+#![tactic(auto)]
 
 ghost use Rattle.std.specs.Prelude.{◌≡◌, ◌+◌, ◌/◌, ◌≤◌, length};
 ghost use Rattle.words.specs.Bounds.{largest};
