@@ -1,5 +1,6 @@
 // What a status screen shows of the card that is in: tries left, and the number of protected bytes. No offered function has a `requires`: any
 // image has its counts. The rules are written in specs/Counts.antt.
+#![tactic(auto)]
 
 ghost use Rattle.std.specs.Prelude.{◌≡◌, ◌%◌, ◌≤◌, length};
 ghost use Rattle.words.specs.Bounds.{largest};

@@ -1,7 +1,6 @@
 use mathlib.Core.Path.{◌≡◌, refl, sym, ap, ◌∙◌}
 use mathlib.Core.Bool.{Bool}
 use mathlib.Core.List.{List}
-use mathlib.Core.Logic.{⊎_elim}
 use native.Mathlib.Omega.{arith}
 use native.Mathlib.Nat.{add-zero}
 use Prim.Native.Nat.{ℕ, ◌+◌, ◌-◌, ◌≤◌, ◌<◌}
@@ -17,7 +16,7 @@ use Rattle.bits.specs.declared.Place.TheVariants.{At, Nowhere}
 use Rattle.stores.specs.Stores.{storing, ends_equal}
 use Rattle.stores.proofs.StoreLaws.{found_place, run_long, turn_stored, turn_ends, rest_stored, rest_ends}
 use Rattle.stores.proofs.store_unprotected.Goals as goal
-use Rattle.stores.proofs.store_unprotected.Goals.{After-store-in-loop-k, In-At-2}
+use Rattle.stores.proofs.store_unprotected.Goals.{After-store-in-loop-k, In-At, then-image-k, else-image-k}
 
 pub loop-k-init : goal.loop-k-init
 unfolding ◌and◌
@@ -48,12 +47,12 @@ returns-in_default c =
 
 -- ---- it found a protected byte
 -- where
-place : (d : In-At-2) → let l = d.loop-k in let a = d.args in
+place : (d : In-At) → let l = d.loop-k in let a = d.args in
     first_protected a.bits a.covered l.image (a.at + l.i) (length a.«data».now - l.i) ≡ At d.in-At.k
 place d = sym d.first_protected-found.ensures ∙ d.in-At.is
 
 -- it stands in what is left of the range
-between : (d : In-At-2) → let l = d.loop-k in let a = d.args in
+between : (d : In-At) → let l = d.loop-k in let a = d.args in
     (a.at + l.i ≤ d.in-At.k) × (d.in-At.k < a.at + length a.«data».now)
 between d =
     let l = d.loop-k in
@@ -61,23 +60,23 @@ between d =
     found_place a.bits a.covered l.image a.at l.i d.in-At.k a.«data».now (omega arith) (omega arith) (place d)
 
 pub overflow_sub-end : goal.overflow_sub-end
-overflow_sub-end c = omega (arith, between (goal.at.overflow_sub-end c).In-At-2)
+overflow_sub-end c = omega (arith, between (goal.at.overflow_sub-end c).In-At)
 
 pub slice_bounds-store-count-in-loop-k : goal.slice_bounds-store-count-in-loop-k
-slice_bounds-store-count-in-loop-k c = omega (arith, between (goal.at.slice_bounds-store-count-in-loop-k c).In-At-2)
+slice_bounds-store-count-in-loop-k c = omega (arith, between (goal.at.slice_bounds-store-count-in-loop-k c).In-At)
 
 pub slice_bounds-store-start-in-loop-k : goal.slice_bounds-store-start-in-loop-k
-slice_bounds-store-start-in-loop-k c = omega (arith, between (goal.at.slice_bounds-store-start-in-loop-k c).In-At-2)
+slice_bounds-store-start-in-loop-k c = omega (arith, between (goal.at.slice_bounds-store-start-in-loop-k c).In-At)
 
 pub slice_bounds-store-end-in-loop-k : goal.slice_bounds-store-end-in-loop-k
-slice_bounds-store-end-in-loop-k c = omega (arith, between (goal.at.slice_bounds-store-end-in-loop-k c).In-At-2)
+slice_bounds-store-end-in-loop-k c = omega (arith, between (goal.at.slice_bounds-store-end-in-loop-k c).In-At)
 
 pub store-requires-in-loop-k : goal.store-requires-in-loop-k
 store-requires-in-loop-k c =
     let l = c.loop-k in
     let a = c.args in
-    let long = run_long a.bits a.covered l.image a.at l.i c.in-At.k a.«data».now (omega arith) (omega arith) (place (goal.at.store-requires-in-loop-k c).In-At-2) in
-    omega (arith, long, between (goal.at.store-requires-in-loop-k c).In-At-2)
+    let long = run_long a.bits a.covered l.image a.at l.i c.in-At.k a.«data».now (omega arith) (omega arith) (place (goal.at.store-requires-in-loop-k c).In-At) in
+    omega (arith, long, between (goal.at.store-requires-in-loop-k c).In-At)
 
 -- the run was stored, and the image is as long as before
 run-laid : (c : After-store-in-loop-k) → let l = c.loop-k in let a = c.args in
@@ -87,16 +86,16 @@ run-laid c =
     ap length c.store-in-loop-k.ensures ∙ simp length-sets l.invariant.1
 
 pub bounds-image-k : goal.bounds-image-k
-bounds-image-k c = omega (arith, run-laid (goal.at.bounds-image-k c).After-store-in-loop-k, between (goal.at.bounds-image-k c).In-At-2)
+bounds-image-k c = omega (arith, run-laid (goal.at.bounds-image-k c).After-store-in-loop-k, between (goal.at.bounds-image-k c).In-At)
 
 pub bounds-data-end : goal.bounds-data-end
-bounds-data-end c = omega (arith, between (goal.at.bounds-data-end c).In-At-2)
+bounds-data-end c = omega (arith, between (goal.at.bounds-data-end c).In-At)
 
 pub overflow_add-i : goal.overflow_add-i
-overflow_add-i c = omega (arith, between (goal.at.overflow_add-i c).In-At-2)
+overflow_add-i c = omega (arith, between (goal.at.overflow_add-i c).In-At)
 
 pub loop-k-smaller : goal.loop-k-smaller
-loop-k-smaller c = omega (arith, between (goal.at.loop-k-smaller c).In-At-2)
+loop-k-smaller c = omega (arith, between (goal.at.loop-k-smaller c).In-At)
 
 pub loop-k-preserved : goal.loop-k-preserved
 loop-k-preserved c =
@@ -107,21 +106,21 @@ loop-k-preserved c =
     let vs : List ℕ = a.«data».now in
     let whole : List ℕ = storing a.bits a.covered a.image.now a.at vs in
     let after : List ℕ = sets l.image (a.at + l.i) (take (end - l.i) (drop l.i vs)) in
-    let here = turn_ends a.bits a.covered l.image a.at l.i k vs (omega arith) (omega arith) (place (goal.at.loop-k-preserved c).In-At-2) (omega arith) in
+    let here = turn_ends a.bits a.covered l.image a.at l.i k vs (omega arith) (omega arith) (place (goal.at.loop-k-preserved c).In-At) (omega arith) in
     let left : Bool = ends_equal whole (a.at + (end + 1)) (drop (end + 1) vs) in
     let seen : ends_equal whole (a.at + l.i) (drop l.i vs) ≡ (byte c.store-in-loop-k.new.image k is byte vs end and left) =
     ap (λ (x : List ℕ). ends_equal x (a.at + l.i) (drop l.i vs)) l.invariant.2
     ∙ here
     ∙ ap (λ (x : List ℕ). byte after k is byte vs end and ends_equal x (a.at + (end + 1)) (drop (end + 1) vs)) (sym l.invariant.2)
     ∙ ap (λ (x : List ℕ). byte x k is byte vs end and left) (sym c.store-in-loop-k.ensures) in (
-      omega (arith, between (goal.at.loop-k-preserved c).In-At-2),
+      omega (arith, between (goal.at.loop-k-preserved c).In-At),
       run-laid (goal.at.loop-k-preserved c).After-store-in-loop-k,
       l.invariant.2
-          ∙ turn_stored a.bits a.covered l.image a.at l.i k vs (omega arith) (omega arith) (place (goal.at.loop-k-preserved c).In-At-2)
+          ∙ turn_stored a.bits a.covered l.image a.at l.i k vs (omega arith) (omega arith) (place (goal.at.loop-k-preserved c).In-At)
           ∙ ap (λ (x : List ℕ). storing a.bits a.covered x (a.at + (end + 1)) (drop (end + 1) vs)) (sym c.store-in-loop-k.ensures),
       l.invariant.3 ∙ ap (λ (b : Bool). l.equal and b) seen
-          ∙ ⊎_elim
-          (λ w. and_last l.equal (sym (and_fails left (ne_eqb _ _ w.0.taken))) ∙ and_fails left w.1)
-          (λ w. ap (λ (b : Bool). l.equal and b) (sym (and_holds (eq-eqb _ _ w.0.left) refl)) ∙ ap (λ (b : Bool). b and left) (sym w.1))
-          c.if-image-k.branch,
+          ∙ (elim c.if-image-k.branch [
+            then-image-k w ↦ and_last l.equal (sym (and_fails left (ne_eqb _ _ w.if-image-k.true))) ∙ and_fails left w.equal-is
+            | else-image-k w ↦ ap (λ (b : Bool). l.equal and b) (sym (and_holds (eq-eqb _ _ w.if-image-k.false) refl)) ∙ ap (λ (b : Bool). b and left) (sym w.equal-is)
+          ]),
     )

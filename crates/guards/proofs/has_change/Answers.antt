@@ -1,0 +1,15 @@
+-- `has_change` meets its contract: its tests are the rule's.
+use mathlib.Core.Path.{sym, ap, ◌∙◌}
+use borrow.Author.Tests.{not-true, not-false}
+use Rattle.words.specs.Choice.{◌is◌}
+use Rattle.words.proofs.Choices.{and_fails, and_holds}
+use Rattle.chips.specs.declared.Facts.{Facts}
+use Rattle.guards.proofs.has_change.Goals as goal
+
+pub returns-then-not-facts : goal.returns-then-not-facts
+returns-then-not-facts c = and_fails _ (sym (ap (λ (f : Facts). f.coded) c.facts.ensures) ∙ not-true _ c.if-not-facts.true)
+
+pub returns : goal.returns
+returns c =
+    and_holds (sym (ap (λ (f : Facts). f.coded) c.facts.ensures) ∙ not-false _ c.if-not-facts.false)
+    (ap (λ (f : Facts). f.selects is 0x06) c.facts-2.ensures)
