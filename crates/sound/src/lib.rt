@@ -1,5 +1,6 @@
 // When a slot record is sound beside an image, and whether the image is one of its card. No offered function has a `requires`: any record,
 // however made, beside any image has its answer. The rules are written in specs/Sound.antt.
+#![tactic(auto)]
 
 ghost use Rattle.std.specs.Prelude.{◌≡◌, true};
 ghost use Rattle.words.specs.Choice.{◌and◌};

@@ -4,14 +4,13 @@ use mathlib.Core.Bool.{Bool, not, beq}
 use Prim.Native.Nat.{ℕ, ◌-◌, ◌<◌}
 use lib.Bits.{bit_and}
 use lib.Dec.{ltb}
-use borrow.Author.Rules.{rules}
 use borrow.Author.Tests.{lt-ltb, le-ltb}
 use Rattle.words.specs.Choice.{◌and◌, ◌or◌, ◌is◌}
 use Rattle.words.proofs.Choices.{and_fails, and_holds, beq_same}
 use Rattle.words.proofs.Numbers.{all_below, each_below}
 use Rattle.sound.specs.Sound.{page_size}
-use Rattle.sound.proofs.page_size.Statement.{statement}
-use Rattle.sound.proofs.page_size.Tie as tie
+use borrow.Author.Rules.{rules}
+use Rattle.sound.proofs.page_size.Goals as goal
 
 -- the code's answer
 answer : ℕ → Bool
@@ -21,20 +20,14 @@ page-bytes : (p : ℕ) → p < 256 → answer p ≡ page_size p
 unfolding answer all_below page_size ◌and◌ ◌or◌
 page-bytes p h = beq_same (answer p) (page_size p) (each_below (λ (k : ℕ). beq (answer k) (page_size k)) 256 refl p h)
 
-returns : tie.Need-returns
+pub returns-then-page-lt8 : goal.returns-then-page-lt8
+unfolding answer
+returns-then-page-lt8 c =
+    let p = c.args.page in
+    and_fails (bit_and p (p - 1) is 0) (ap not (lt-ltb p 8 c.if-page-lt8.true)) ∙ page-bytes p (search rules)
+
+pub returns : goal.returns
 unfolding answer
 returns c =
-    let p = c.before.args.page in
-    and_fails (bit_and p (p - 1) is 0) (ap not (lt-ltb p 8 c.if1.true)) ∙ page-bytes p (search rules)
-
-sub-result : tie.Need-overflow-sub-result
-sub-result c = search rules
-
-returns-2 : tie.Need-returns-2
-unfolding answer
-returns-2 c =
-    let p = c.before.args.page in
-    and_holds (ap not (le-ltb p 8 c.if1.false)) refl ∙ page-bytes p (search rules)
-
-pub page-size-spec : {M : Type 1} → statement M
-page-size-spec = tie.close (tie.spec returns sub-result returns-2)
+    let p = c.args.page in
+    and_holds (ap not (le-ltb p 8 c.if-page-lt8.false)) refl ∙ page-bytes p (search rules)
