@@ -1,6 +1,7 @@
 // What frames an answer: its header, and why a call is turned down, by number.
 // Inner functions ask that a header is there; the methods have no `requires`.
 // The rules are written in specs/: Answers, and Exchange for what comes of a message, an insertion and a removal.
+#![tactic(auto)]
 
 ghost use Rattle.std.specs.Prelude.{◌≡◌, ◌≤◌, ◌<◌, length};
 ghost use Rattle.words.specs.Choice.{◌⇒◌⁏◌};

@@ -1,6 +1,7 @@
 // What an order says and does, and the orders that leave the card as it is: data and status word go into the lent tail of the answer
 // buffer. Inner functions: each asks that the tail is long enough and that the order fits the card.
 // The rules of every order are written in specs/Orders.antt.
+#![tactic(auto)]
 
 ghost use Rattle.std.specs.Prelude.{◌≡◌, List, [], ◌∷◌, ℕ, ◌+◌, ◌*◌, ◌≤◌, ◌<◌, length};
 ghost use Rattle.words.specs.Bounds.{least_tail};

@@ -1,0 +1,16 @@
+-- `set_page` meets its contract: 90 00, and the page is set.
+use mathlib.Core.Path.{refl, ◌∙◌}
+use native.Mathlib.Omega.{arith}
+use Rattle.words.proofs.Lists.{over_pair}
+use Rattle.orders.specs.Orders.{said_by, image_by, slot_by, performed}
+use Rattle.orders.proofs.set_page.Goals as goal
+
+pub returns : goal.returns
+unfolding performed said_by image_by slot_by
+returns c =
+    λ f image b. record {
+      len = c.put_two-len.ensures.0;
+      slot = c.set_page-next.ensures;
+      image = refl;
+      out = c.put_two-len.ensures.1 ∙ over_pair c.args.out.now 0x90 0x00 (omega arith);
+    }
