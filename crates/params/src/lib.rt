@@ -1,5 +1,6 @@
 // Set, get and reset the parameters: 61h, 6Ch, 6Dh. Inner functions: they ask that the tests before them have passed.
 // The rules are those of `frame` and `sets`.
+#![tactic(auto)]
 
 ghost use Rattle.std.specs.Prelude.{◌≡◌, true, List, ℕ, ◌≤◌, length};
 ghost use Rattle.words.specs.Bounds.{least_room};

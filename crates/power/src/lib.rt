@@ -1,5 +1,6 @@
 // Power on, power off and slot status: 62h, 63h, 65h. Inner functions: they ask that the tests before them have passed.
 // The rules are those of `frame`.
+#![tactic(auto)]
 
 ghost use Rattle.std.specs.Prelude.{◌≡◌, true, List, ℕ, ◌≤◌, length};
 ghost use Rattle.words.specs.Bytes.{over};

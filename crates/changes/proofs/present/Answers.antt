@@ -85,7 +85,7 @@ unfolding performed said_by image_by slot_by
 returns-then-opens c =
     record {
       len = c.put_two-len.ensures.0;
-      slot = c.«open».ensures ∙ ap opened (counted (goal.at.returns-then-opens c).After-with_tries-counted) ∙ taken _ (right (goal.at.returns-then-opens c).After-present-opens ∙ c.if-opens.true);
+      slot = c.open-next.ensures ∙ ap opened (counted (goal.at.returns-then-opens c).After-with_tries-counted) ∙ taken _ (right (goal.at.returns-then-opens c).After-present-opens ∙ c.if-opens.true);
       image = code_after (goal.at.returns-then-opens c).After-present-opens;
       out = said (goal.at.returns-then-opens c).After-put_two-len;
     }

@@ -30,7 +30,7 @@ pub returns-then-write_bytes : goal.returns-then-write_bytes
 unfolding performed said_by image_by slot_by written_word
 returns-then-write_bytes c =
     let a = c.args in
-    let said : done ≡ word c = taken _ (report (goal.at.returns-then-write_bytes c).After-write_bytes ∙ c.if-write_bytes.true) in
+    let said : done ≡ word (goal.at.returns-then-write_bytes c).After-write_bytes = taken _ (report (goal.at.returns-then-write_bytes c).After-write_bytes ∙ c.if-write_bytes.true) in
     record {
       len = c.put_two-len.ensures.0 ∙ ap length said;
       slot = refl;
@@ -42,7 +42,7 @@ pub returns : goal.returns
 unfolding performed said_by image_by slot_by written_word
 returns c =
     let a = c.args in
-    let said : unequal ≡ word c = passed _ (report (goal.at.returns c).After-write_bytes ∙ c.if-write_bytes.false) refl in
+    let said : unequal ≡ word (goal.at.returns c).After-write_bytes = passed _ (report (goal.at.returns c).After-write_bytes ∙ c.if-write_bytes.false) refl in
     record {
       len = c.put_two-len-2.ensures.0 ∙ ap length said;
       slot = refl;
