@@ -1,5 +1,6 @@
 // The reader: one host message, or one insertion or removal, from slot record and card image to the answer and what the card holds next.
 // No offered function has a `requires`: any message, any image, any record and any answer buffer has its one outcome.
+#![tactic(auto)]
 
 ghost use Rattle.std.specs.Prelude.{◌≡◌, [], ◌≤◌, length};
 ghost use Rattle.words.specs.Bounds.{least_room};

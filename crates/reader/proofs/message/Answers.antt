@@ -1,0 +1,33 @@
+-- `message` meets its contract: tests 1 and 2, and then what the slot does.
+use mathlib.Core.Path.{◌≡◌, sym, ap, ◌∙◌}
+use lib.ListN.{length}
+use Rattle.frame.specs.Exchange.{exchange}
+use Rattle.frame.proofs.AnswerLaws.{gives_is, gives_down}
+use Rattle.reader.specs.declared.Meant.{Meant}
+use Rattle.reader.specs.Fronts.{fronted}
+use Rattle.reader.proofs.Fronting.{exchange_fronted, slot_meant}
+use Rattle.reader.proofs.message.Goals as goal
+use Rattle.reader.proofs.message.Goals.{After-front-meant}
+
+-- the exchange is what comes of the front
+by_front : (c : After-front-meant) (x : Meant) → c.front-meant.result ≡ x → let a = c.args in
+    exchange a.slot a.image.now a.msg.now (length a.answer.now) ≡ fronted x a.slot a.image.now a.msg.now
+by_front c x e =
+    let a = c.args in
+    exchange_fronted a.slot a.image.now a.msg.now (length a.answer.now)
+    ∙ ap (λ (y : Meant). fronted y a.slot a.image.now a.msg.now) (sym c.front-meant.ensures ∙ e)
+
+pub serve-requires : goal.serve-requires
+serve-requires c =
+    let a = c.args in
+    let here = slot_meant a.msg.now (length a.answer.now) _ (sym c.front-meant.ensures ∙ c.in-Slot.is) in
+    (here.0, here.1)
+
+pub returns-in-Refused : goal.returns-in-Refused
+returns-in-Refused c =
+    let a = c.args in
+    gives_is (by_front (goal.at.returns-in-Refused c).After-front-meant _ c.in-Refused.is) (gives_down _ a.slot a.image.now a.answer.now c.turn_down.ensures.0 c.turn_down.ensures.1)
+
+pub returns-in-Slot : goal.returns-in-Slot
+returns-in-Slot c =
+    gives_is (by_front (goal.at.returns-in-Slot c).After-front-meant _ c.in-Slot.is) c.serve.ensures
