@@ -1,5 +1,6 @@
 // The calls on a raw record. No offered function has a `requires`: each has its one result for every input, and every byte of record, image and
 // answer buffer afterwards is said. The rules are written in specs/Calls.antt.
+#![tactic(auto)]
 
 ghost use Rattle.std.specs.Prelude.{◌≡◌, [], ◌≤◌, length, drop, replicate};
 ghost use Rattle.words.specs.Bytes.{byte};

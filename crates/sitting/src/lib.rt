@@ -1,5 +1,6 @@
 // A sitting at the reader: one record after another, each done to the slot record and the card image that the last one left.
 // No offered function has a `requires`: any record, any body and whatever is held has its one outcome.
+#![tactic(auto)]
 
 ghost use Rattle.std.specs.Prelude.{◌≡◌, List, ℕ, ◌≤◌, length, take};
 ghost use Rattle.words.specs.Bounds.{largest_held, least_room};
