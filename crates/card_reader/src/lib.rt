@@ -1,4 +1,5 @@
 // The calls for C: each gives the answer's length, or the refusal's number as a negative. None has a `requires`. The rules are those of `calls`.
+#![tactic(auto)]
 
 ghost use Rattle.std.specs.Prelude.{◌≡◌, [], ◌≤◌, length};
 ghost use Rattle.words.specs.Bounds.{longest_answer};

@@ -1,5 +1,6 @@
 // What a session prints, put into a lent buffer part by part: the line of a record that is done, and what is printed where the session stops.
 // No public function has a `requires`: any record, any body and whatever is held has its one line.
+#![tactic(auto)]
 
 ghost use Rattle.std.specs.Prelude.{◌≡◌, ◌+◌, ◌*◌, ◌≤◌, length, take};
 ghost use Rattle.lines.specs.Lines.{line, Puts};
