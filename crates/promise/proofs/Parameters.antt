@@ -1,7 +1,7 @@
 -- What 61h took, 6Ch tells; and the default returns exactly on reset, power on, insertion and removal: no other message changes the parameters.
 use Prim.Native.Nat.{ℕ}
 use mathlib.Core.Path.{◌≡◌, refl, sym, ap, ap₂, ◌∙◌}
-use mathlib.Core.Bool.{true, false, false≢true}
+use mathlib.Core.Bool.{true, false≢true}
 use mathlib.Core.List.{List, [], ◌∷◌}
 use Rattle.words.specs.Choice.{◌⇒◌⁏◌}
 use Rattle.words.specs.Bytes.{AllBytes, byte, over}

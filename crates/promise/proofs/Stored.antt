@@ -1,6 +1,6 @@
 -- A D0 on a card with protection bits stores every unprotected byte of its range and leaves every other byte of the image; it is answered 90 00
 -- exactly where the range then reads back as the data, else 65 81. On a card without bits it is answered 90 00.
-use Prim.Native.Nat.{ℕ, suc, ◌+◌, ◌-◌, ◌≤◌, ◌<◌}
+use Prim.Native.Nat.{ℕ, suc, ◌+◌, ◌≤◌, ◌<◌}
 use mathlib.Core.Path.{◌≡◌, refl, sym, ap, ap₂, ◌∙◌, subst, subst⁻¹}
 use mathlib.Core.Bool.{Bool, true, false}
 use mathlib.Core.List.{List, [], ◌∷◌}

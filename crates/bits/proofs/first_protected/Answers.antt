@@ -1,6 +1,6 @@
-use mathlib.Core.Path.{◌≡◌, sym, ap, ◌∙◌}
+use mathlib.Core.Path.{sym, ap, ◌∙◌}
 use native.Mathlib.Omega.{arith}
-use Prim.Native.Nat.{ℕ, ◌-◌, ◌≤◌}
+use Prim.Native.Nat.{ℕ, ◌-◌}
 use Rattle.bits.specs.Bits.{first_protected}
 use Rattle.bits.proofs.ProtectionLaws.{first_none, first_here, first_covered, first_past}
 use Rattle.bits.proofs.first_protected.Goals as goal

@@ -1,9 +1,8 @@
 use mathlib.Core.Path.{◌≡◌, refl, sym, ap, ◌∙◌}
 use native.Mathlib.Omega.{arith}
-use Prim.Native.Nat.{ℕ, ◌+◌, ◌-◌, ◌≤◌}
+use Prim.Native.Nat.{ℕ, ◌+◌}
 use lib.ListN.{length, drop}
 use mathlib.Core.List.{List}
-use Rattle.words.proofs.Choices.{taken}
 use native.Mathlib.Nat.{add-zero}
 use Rattle.bits.specs.Bits.{protected_count, protecting, protect_equal}
 use Rattle.bits.proofs.ProtectionLaws.{length_protecting, equal_hit, equal_miss, equal_end}
@@ -31,34 +30,37 @@ loop-i-preserved c =
     let k : ℕ = a.at + l.i in
     let whole : List ℕ → List ℕ = λ t. protect_equal a.bits a.covered t (a.at + (l.i + 1)) (drop (l.i + 1) a.«data».now) in
     elim c.if-image-k.branch [
-      then-image-k w ↦
-    let left : c.if-image-k.image ≡ protecting a.bits a.covered l.image k = w.image-is ∙ w.protect_one-more.ensures.image in
-    let more : c.if-image-k.more ≡ l.more + w.protect_one-more.result = w.more-is in (
-      omega arith,
-      ap length left ∙ length_protecting a.bits a.covered l.image k ∙ l.invariant.1,
-      l.invariant.2 ∙ equal_hit a.bits a.covered l.image a.at l.i a.«data».now (omega arith) w.if-image-k.true ∙ ap whole (sym left),
-      omega (
-        arith,
-        ap (protected_count a.bits a.covered) left,
-        count_protecting a.bits a.covered l.image k (omega arith) (omega arith) (omega (arith, l.invariant.1)),
-        w.protect_one-more.ensures.more,
-        l.invariant.3,
-        more,
-      ),
-      omega (arith, w.protect_one-more.ensures.more, l.invariant.4, more),
-    )
+      | then-image-k w ↦
+          let left : c.if-image-k.image ≡ protecting a.bits a.covered l.image k = w.image-is ∙ w.protect_one-more.ensures.image in
+          let more : c.if-image-k.more ≡ l.more + w.protect_one-more.result = w.more-is in (
+            omega arith,
+            ap length left ∙ length_protecting a.bits a.covered l.image k ∙ l.invariant.1,
+            l.invariant.2 ∙ equal_hit a.bits a.covered l.image a.at l.i a.«data».now (omega arith) w.if-image-k.true ∙ ap whole (sym left),
+            omega (
+              arith,
+              ap (protected_count a.bits a.covered) left,
+              count_protecting a.bits a.covered l.image k (omega arith) (omega arith) (omega (arith, l.invariant.1)),
+              w.protect_one-more.ensures.more,
+              l.invariant.3,
+              more,
+            ),
+            omega (arith, w.protect_one-more.ensures.more, l.invariant.4, more),
+          )
       | else-image-k w ↦ (
-      omega arith,
-      ap length w.image-is ∙ l.invariant.1,
-      l.invariant.2 ∙ equal_miss a.bits a.covered l.image a.at l.i a.«data».now (omega arith) w.if-image-k.false ∙ ap whole (sym w.image-is),
-      omega (arith, ap (protected_count a.bits a.covered) w.image-is, l.invariant.3, w.more-is),
-      omega (arith, l.invariant.4, w.more-is),
-    )
+        omega arith,
+        ap length w.image-is ∙ l.invariant.1,
+        l.invariant.2 ∙ equal_miss a.bits a.covered l.image a.at l.i a.«data».now (omega arith) w.if-image-k.false ∙ ap whole (sym w.image-is),
+        omega (arith, ap (protected_count a.bits a.covered) w.image-is, l.invariant.3, w.more-is),
+        omega (arith, l.invariant.4, w.more-is),
+      )
     ]
 
 pub returns : goal.returns
 returns c =
     let a = c.args in
     let l = c.loop-i in
-    let e : l.i ≡ length a.«data».now = omega arith in record { image = sym (l.invariant.2 ∙ ap (λ (k : ℕ). protect_equal a.bits a.covered l.image (a.at + k) (drop k a.«data».now)) e
-          ∙ equal_end a.bits a.covered l.image (a.at + length a.«data».now) a.«data».now); more = (l.invariant.3, omega (arith, l.invariant.4)) }
+    let e : l.i ≡ length a.«data».now = omega arith in record {
+      image = sym (l.invariant.2 ∙ ap (λ (k : ℕ). protect_equal a.bits a.covered l.image (a.at + k) (drop k a.«data».now)) e
+          ∙ equal_end a.bits a.covered l.image (a.at + length a.«data».now) a.«data».now);
+      more = (l.invariant.3, omega (arith, l.invariant.4));
+    }

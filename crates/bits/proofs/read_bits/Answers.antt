@@ -1,7 +1,7 @@
 use mathlib.Core.Path.{◌≡◌, refl, sym, ap, ap₂, ◌∙◌}
 use native.Mathlib.Omega.{arith}
-use Prim.Native.Nat.{ℕ, ◌+◌, ◌-◌, ◌*◌, ◌/◌, ◌%◌, ◌^◌, ◌≤◌}
-use lib.ListN.{length, take, drop, set, length-set}
+use Prim.Native.Nat.{ℕ, ◌+◌, ◌-◌, ◌*◌, ◌/◌, ◌%◌, ◌^◌}
+use lib.ListN.{take, drop, set, length-set}
 use lib.Seq.{sets}
 use mathlib.Core.List.{List}
 use Rattle.words.specs.Bytes.{byte, over, series, eight_at, low_first}

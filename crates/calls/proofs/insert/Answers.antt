@@ -3,7 +3,7 @@ use mathlib.Core.Path.{refl, sym, ap, ◌∙◌}
 use mathlib.Core.Bool.{not}
 use borrow.Author.Tests.{eq-eqb, ne_eqb}
 use mathlib.Core.List.{[]}
-use Rattle.words.proofs.Choices.{first, rest, taken}
+use Rattle.words.proofs.Choices.{first, rest}
 use Rattle.slot.specs.declared.Slot.{Slot}
 use Rattle.frame.specs.declared.Refusal.{Refusal}
 use Rattle.frame.specs.Exchange.{insertion}

@@ -3,11 +3,10 @@ use mathlib.Core.Path.{refl, sym, ap, ◌∙◌}
 use mathlib.Core.Bool.{not}
 use borrow.Author.Tests.{eq-eqb, ne_eqb}
 use mathlib.Core.List.{[]}
-use Rattle.words.proofs.Choices.{first, rest, taken}
+use Rattle.words.proofs.Choices.{first, rest}
 use Rattle.words.proofs.Lists.{over_none}
 use Rattle.record.specs.Raw.{raw_of}
 use Rattle.frame.specs.declared.Refusal.{Refusal}
-use Rattle.frame.specs.Exchange.{number}
 use Rattle.calls.specs.Calls.{raw_removal}
 use Rattle.calls.proofs.CallLaws.{raw_is, raw_down_lem}
 use Rattle.calls.proofs.remove.Goals as goal

@@ -37,10 +37,13 @@ pub returns-then-facts-ne0 : goal.returns-then-facts-ne0
 unfolding written
 returns-then-facts-ne0 c =
     let a = c.args in
-    let f = facts a.chip in record { image = c.write.ensures
+    let f = facts a.chip in record {
+      image = c.write.ensures
           ∙ ap₂ (λ (x y : ℕ). page_write x y a.image.now a.at a.at a.«data».now) c.wide.ensures.0
           (ap (λ (f : Facts). f.page) c.facts-then-facts-ne0.ensures)
-          ∙ taken _ (ap not (ne_eqb f.page 0 (λ e. omega (arith, some-pages (goal.at.returns-then-facts-ne0 c).Then-facts-ne0)))); report = or_taken _ (eq-eqb _ 0 (pages_bare a.chip (some-pages (goal.at.returns-then-facts-ne0 c).Then-facts-ne0))) }
+          ∙ taken _ (ap not (ne_eqb f.page 0 (λ e. omega (arith, some-pages (goal.at.returns-then-facts-ne0 c).Then-facts-ne0))));
+      report = or_taken _ (eq-eqb _ 0 (pages_bare a.chip (some-pages (goal.at.returns-then-facts-ne0 c).Then-facts-ne0)));
+    }
 
 no-pages : (c : Else-facts-ne0) → (facts c.args.chip).page ≡ 0
 no-pages c = sym (ap (λ (f : Facts). f.page) c.facts.ensures) ∙ c.if-facts-ne0.false
@@ -58,6 +61,9 @@ returns c =
     let a = c.args in
     let f = facts a.chip in
     let bits = ap (λ (f : Facts). f.bits) c.facts-2.ensures in
-    let covered = ap (λ (f : Facts). f.covered) c.facts-3.ensures in record { image = c.store_unprotected.ensures.stored
+    let covered = ap (λ (f : Facts). f.covered) c.facts-3.ensures in record {
+      image = c.store_unprotected.ensures.stored
           ∙ ap₂ (λ (x y : ℕ). storing x y a.image.now a.at a.«data».now) bits covered
-          ∙ passed _ (ap not (eq-eqb f.page 0 (no-pages (goal.at.returns c).Else-facts-ne0))) refl; report = or_passed (ne_eqb f.covered 0 (λ e. omega (arith, pageless_bits a.chip (no-pages (goal.at.returns c).Else-facts-ne0)))) c.store_unprotected.ensures.report }
+          ∙ passed _ (ap not (eq-eqb f.page 0 (no-pages (goal.at.returns c).Else-facts-ne0))) refl;
+      report = or_passed (ne_eqb f.covered 0 (λ e. omega (arith, pageless_bits a.chip (no-pages (goal.at.returns c).Else-facts-ne0)))) c.store_unprotected.ensures.report;
+    }

@@ -5,7 +5,7 @@ use Prim.Native.Nat.{ℕ, ◌≤◌}
 use borrow.Author.Tests.{lt-ltb}
 use lib.ListN.{length}
 use mathlib.Core.List.{List}
-use Rattle.words.proofs.Choices.{first, taken}
+use Rattle.words.proofs.Choices.{first}
 use Rattle.words.proofs.Lists.{tail_is}
 use Rattle.chips.specs.Kinds.{facts}
 use Rattle.steps.specs.Steps.{order, body}

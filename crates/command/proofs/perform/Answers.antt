@@ -6,7 +6,6 @@ use mathlib.Core.List.{List}
 use Rattle.chips.specs.declared.Facts.{Facts}
 use Rattle.chips.specs.Kinds.{facts}
 use Rattle.chips.proofs.KindLaws.{laid, coded}
-use Rattle.steps.specs.Steps.{order}
 use Rattle.steps.specs.Fits.{Fit, Short}
 use Rattle.steps.specs.declared.Order.{Order}
 use Rattle.orders.proofs.Tells.{does_by}
@@ -17,17 +16,16 @@ fit-by : (f : Facts) (d : List ℕ) {o o' : Order} → o ≡ o' → Fit f d o �
 fit-by f d e h = subst (λ (o : Order). Fit f d o) e h
 
 pub read-requires : goal.read-requires
-read-requires c =
-    (
-      omega arith,
-      omega (
-        arith,
-        c.requires.1,
-        (laid c.args.chip).front,
-        (fit-by (facts c.args.chip) c.args.«data».now c.in-Read.is c.requires.3).0,
-      ),
-      omega (arith, subst Short c.in-Read.is c.requires.4),
-    )
+read-requires c = (
+  omega arith,
+  omega (
+    arith,
+    c.requires.1,
+    (laid c.args.chip).front,
+    (fit-by (facts c.args.chip) c.args.«data».now c.in-Read.is c.requires.3).0,
+  ),
+  omega (arith, subst Short c.in-Read.is c.requires.4),
+)
 
 pub read_counter-requires : goal.read_counter-requires
 read_counter-requires c =
@@ -37,48 +35,43 @@ read_counter-requires c =
     (omega arith, omega (arith, c.requires.1, f.inside), omega (arith, fit.1, f.long), omega (arith, fit.1, (laid a.chip).digits))
 
 pub read_bits-requires : goal.read_bits-requires
-read_bits-requires c =
-    (
-      omega arith,
-      c.requires.1,
-      (fit-by (facts c.args.chip) c.args.«data».now c.in-Bits.is c.requires.3).0,
-      (fit-by (facts c.args.chip) c.args.«data».now c.in-Bits.is c.requires.3).1,
-    )
+read_bits-requires c = (
+  omega arith,
+  c.requires.1,
+  (fit-by (facts c.args.chip) c.args.«data».now c.in-Bits.is c.requires.3).0,
+  (fit-by (facts c.args.chip) c.args.«data».now c.in-Bits.is c.requires.3).1,
+)
 
 pub write-requires : goal.write-requires
-write-requires c =
-    (
-      omega arith,
-      c.requires.1,
-      (fit-by (facts c.args.chip) c.args.«data».now c.in-Write.is c.requires.3).0,
-      c.requires.2,
-    )
+write-requires c = (
+  omega arith,
+  c.requires.1,
+  (fit-by (facts c.args.chip) c.args.«data».now c.in-Write.is c.requires.3).0,
+  c.requires.2,
+)
 
 pub protect-requires : goal.protect-requires
-protect-requires c =
-    (
-      omega arith,
-      c.requires.1,
-      (fit-by (facts c.args.chip) c.args.«data».now c.in-Protect.is c.requires.3).0,
-      c.requires.5,
-    )
+protect-requires c = (
+  omega arith,
+  c.requires.1,
+  (fit-by (facts c.args.chip) c.args.«data».now c.in-Protect.is c.requires.3).0,
+  c.requires.5,
+)
 
 pub present-requires : goal.present-requires
-present-requires c =
-    (
-      omega arith,
-      c.requires.1,
-      (fit-by (facts c.args.chip) c.args.«data».now c.in-Present.is c.requires.3).0,
-      (fit-by (facts c.args.chip) c.args.«data».now c.in-Present.is c.requires.3).1,
-    )
+present-requires c = (
+  omega arith,
+  c.requires.1,
+  (fit-by (facts c.args.chip) c.args.«data».now c.in-Present.is c.requires.3).0,
+  (fit-by (facts c.args.chip) c.args.«data».now c.in-Present.is c.requires.3).1,
+)
 
 pub change-requires : goal.change-requires
-change-requires c =
-    (
-      omega arith,
-      c.requires.1,
-      (fit-by (facts c.args.chip) c.args.«data».now c.in-Change.is c.requires.3).1,
-    )
+change-requires c = (
+  omega arith,
+  c.requires.1,
+  (fit-by (facts c.args.chip) c.args.«data».now c.in-Change.is c.requires.3).1,
+)
 
 pub returns-in-Refuse : goal.returns-in-Refuse
 returns-in-Refuse c =

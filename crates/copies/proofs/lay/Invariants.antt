@@ -1,6 +1,6 @@
 -- `lay` meets its contract. Both loops' invariant: so many bytes of the source, and behind them the buffer as it was. The last block may meet those before.
 use mathlib.Core.Path.{◌≡◌}
-use Prim.Native.Nat.{ℕ, ◌+◌, ◌-◌, ◌≤◌}
+use Prim.Native.Nat.{ℕ, ◌-◌, ◌≤◌}
 use mathlib.Core.List.{List, ◌++◌}
 use lib.ListN.{length, take, drop}
 use Rattle.copies.proofs.lay.Given as goal

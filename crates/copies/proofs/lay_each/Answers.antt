@@ -1,8 +1,8 @@
-use mathlib.Core.Path.{◌≡◌, ap, ◌∙◌}
+use mathlib.Core.Path.{ap, ◌∙◌}
 use native.Mathlib.Omega.{arith}
-use Prim.Native.Nat.{ℕ, ◌-◌, ◌≤◌}
-use mathlib.Core.List.{List, ◌++◌}
-use lib.ListN.{length, take, drop, set, get_or, length-set}
+use Prim.Native.Nat.{ℕ}
+use mathlib.Core.List.{List}
+use lib.ListN.{set, get_or, length-set}
 use Rattle.words.proofs.Lists.{copy_more, copied_all}
 use Rattle.copies.proofs.lay_each.Goals as goal
 

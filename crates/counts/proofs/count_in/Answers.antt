@@ -1,5 +1,5 @@
 -- `count_in` meets its contract: none where no byte has a bit; else the protection bytes, which stand in the card's image, are lent and counted.
-use mathlib.Core.Path.{◌≡◌, refl, sym, ap, ap₂, ◌∙◌}
+use mathlib.Core.Path.{◌≡◌, sym, ap, ap₂, ◌∙◌}
 use native.Mathlib.Omega.{arith}
 use Prim.Native.Nat.{ℕ, ◌+◌, ◌-◌, ◌/◌}
 use lib.ListN.{length, take, drop, length-drop}

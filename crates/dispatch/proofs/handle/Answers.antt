@@ -1,6 +1,5 @@
 -- `handle` meets its contract: each arm is its type.
 use mathlib.Core.Path.{ap}
-use mathlib.Core.Logic.{⊎_elim}
 use Rattle.words.specs.Choice.{◌⇒◌⁏◌}
 use Rattle.faults.specs.Faults.{request_of}
 use Rattle.faults.proofs.TypeLaws.{other_type_lem, lone_type}

@@ -3,11 +3,9 @@ use mathlib.Core.Path.{◌≡◌, sym, ap, ◌∙◌, subst}
 use mathlib.Core.Bool.{true}
 use native.Mathlib.Omega.{arith}
 use Prim.Native.Nat.{ℕ, ◌-◌}
-use borrow.Author.Tests.{not-true, not-false}
 use lib.ListN.{length, take, drop, length-drop}
 use mathlib.Core.List.{List}
 use Rattle.words.specs.Choice.{◌⇒◌⁏◌}
-use Rattle.words.proofs.Choices.{taken}
 use Rattle.words.proofs.Lists.{lent_tail, tail_is}
 use Rattle.chips.specs.Kinds.{facts}
 use Rattle.card.proofs.ImageLaws.{card_parts}

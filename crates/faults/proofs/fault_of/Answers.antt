@@ -1,6 +1,5 @@
 -- `fault_of` meets its contract: its tests are the faults, in their order.
 use mathlib.Core.Path.{sym, ap, ◌∙◌}
-use borrow.Author.Tests.{not-true, not-false}
 use Rattle.faults.specs.declared.Fault.{Fault}
 use Rattle.faults.specs.Faults.{request_of, data_fits}
 use Rattle.faults.proofs.FaultLaws.{Free1, Free2, FreeType, Free3, Free4, free1, free2, free_type, free3, free4, free5, fault1, fault2, fault_type, fault3, fault4, fault5}

@@ -17,18 +17,16 @@ returns-then-not-has_card c = (taken _ (sym (or_passed (ap not (eq-eqb _ 0 c.if-
 
 pub returns-then-slot : goal.returns-then-slot
 unfolding card_state
-returns-then-slot c =
-    (
-      passed _ (sym (or_passed (ap not (eq-eqb _ 0 c.if-bslot-ne0.false))
-          (sym (ap not (sym c.has_card.ensures ∙ c.if-not-has_card.false))))) (taken _ c.if-slot.true),
-      omega arith,
-    )
+returns-then-slot c = (
+  passed _ (sym (or_passed (ap not (eq-eqb _ 0 c.if-bslot-ne0.false))
+      (sym (ap not (sym c.has_card.ensures ∙ c.if-not-has_card.false))))) (taken _ c.if-slot.true),
+  omega arith,
+)
 
 pub returns : goal.returns
 unfolding card_state
-returns c =
-    (
-      passed _ (sym (or_passed (ap not (eq-eqb _ 0 c.if-bslot-ne0.false))
-          (sym (ap not (sym c.has_card.ensures ∙ c.if-not-has_card.false))))) (passed _ c.if-slot.false refl),
-      omega arith,
-    )
+returns c = (
+  passed _ (sym (or_passed (ap not (eq-eqb _ 0 c.if-bslot-ne0.false))
+      (sym (ap not (sym c.has_card.ensures ∙ c.if-not-has_card.false))))) (passed _ c.if-slot.false refl),
+  omega arith,
+)

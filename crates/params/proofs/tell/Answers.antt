@@ -1,7 +1,6 @@
 -- `tell` meets its contract: failed, or the parameters told behind the header.
 use mathlib.Core.Path.{refl, sym, ◌∙◌}
 use native.Mathlib.Omega.{arith}
-use borrow.Author.Tests.{not-true, not-false}
 use lib.ListN.{length-drop}
 use Rattle.words.proofs.Lists.{lent_tail, tail_is}
 use Rattle.sets.specs.Sets.{bytes_of}

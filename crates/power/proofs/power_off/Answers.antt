@@ -2,7 +2,6 @@
 use mathlib.Core.Path.{refl, sym, ◌∙◌}
 use mathlib.Core.Bool.{false}
 use native.Mathlib.Omega.{arith}
-use borrow.Author.Tests.{not-true, not-false}
 use Rattle.words.specs.Choice.{◌⇒◌⁏◌}
 use Rattle.slot.specs.Slots.{powered}
 use Rattle.faults.specs.Faults.{PowerOff, request_of}

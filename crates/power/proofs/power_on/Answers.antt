@@ -5,7 +5,6 @@ use mathlib.Core.List.{List}
 use native.Mathlib.Omega.{arith}
 use Prim.Native.Nat.{ℕ}
 use lib.ListN.{length-drop}
-use borrow.Author.Tests.{not-true, not-false}
 use Rattle.words.specs.Choice.{◌⇒◌⁏◌}
 use Rattle.words.proofs.Lists.{lent_tail, tail_is}
 use Rattle.chips.specs.Kinds.{facts}

@@ -1,7 +1,6 @@
 -- `slot_status` meets its contract: failed or not, nothing is done.
 use mathlib.Core.Path.{refl, sym, ◌∙◌}
 use native.Mathlib.Omega.{arith}
-use borrow.Author.Tests.{not-true, not-false}
 use Rattle.words.specs.Choice.{◌⇒◌⁏◌}
 use Rattle.faults.specs.Faults.{SlotStatus, request_of}
 use Rattle.frame.specs.Exchange.{deed}

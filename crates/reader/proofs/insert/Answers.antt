@@ -1,9 +1,8 @@
 -- `insert` meets its contract: its tests are the rule's, 5 and then 3.
 use mathlib.Core.Path.{◌≡◌, refl, sym, ap, ap₂, ◌∙◌}
-use borrow.Author.Tests.{not-true, not-false}
 use mathlib.Core.List.{[]}
 use lib.ListN.{length}
-use Rattle.words.proofs.Choices.{first, rest, taken}
+use Rattle.words.proofs.Choices.{first, rest}
 use Rattle.words.proofs.Lists.{over_none}
 use Rattle.chips.specs.declared.Known.{Known}
 use Rattle.chips.specs.Kinds.{facts, chip_of}

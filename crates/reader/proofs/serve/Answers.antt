@@ -2,7 +2,6 @@
 use mathlib.Core.Path.{◌≡◌, sym, ap, ◌∙◌}
 use mathlib.Core.Bool.{true, not}
 use native.Mathlib.Omega.{arith}
-use borrow.Author.Tests.{not-false}
 use Rattle.words.proofs.Choices.{first, rest}
 use Rattle.sound.specs.Sound.{image_is_card, sound}
 use Rattle.sound.proofs.SoundLaws.{sound_parts}

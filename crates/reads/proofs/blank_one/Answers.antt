@@ -1,6 +1,5 @@
 -- `blank_one` meets its contract: a byte before or behind the window is not there, one in it is set.
 use mathlib.Core.Path.{sym}
-use Rattle.words.proofs.Choices.{taken}
 use Rattle.reads.proofs.ReadLaws.{blank_before, blank_behind, blank_here}
 use Rattle.reads.proofs.blank_one.Goals as goal
 

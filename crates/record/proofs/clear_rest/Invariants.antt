@@ -1,7 +1,7 @@
 -- `clear_rest` meets its contract. The loop's invariant: so many bytes of 00h were stored from byte 17 on.
 use mathlib.Core.Path.{◌≡◌}
 use Prim.Native.Nat.{◌-◌, ◌≤◌}
-use lib.ListN.{length, set, replicate}
+use lib.ListN.{length, replicate}
 use lib.Seq.{sets}
 use Rattle.record.proofs.clear_rest.Given as goal
 

@@ -1,7 +1,7 @@
 -- `read_record` meets its contract: the kind byte is 0, a kind or none, and the rest is read as one.
 use mathlib.Core.Path.{◌≡◌, sym, ap, ◌∙◌}
 use borrow.Author.Tests.{eq-eqb, ne_eqb}
-use Rattle.words.proofs.Choices.{taken, met, passed}
+use Rattle.words.proofs.Choices.{met, passed}
 use Rattle.words.specs.Bytes.{byte}
 use Rattle.record.specs.Raw.{card_with, slot_of}
 use Rattle.chips.specs.declared.Known.{Known}

@@ -1,6 +1,5 @@
 -- `fits_length` meets its contract: its tests are the rule's.
 use mathlib.Core.Path.{sym}
-use Rattle.words.specs.Choice.{◌or◌}
 use Rattle.sets.proofs.SetLaws.{fits_none, fits_one, fits_other}
 use Rattle.sets.proofs.fits_length.Goals as goal
 

@@ -1,7 +1,7 @@
 -- `put_set` meets its contract. The loop's invariant: so many bytes of the set stand in front.
 use mathlib.Core.Path.{◌≡◌}
 use Prim.Native.Nat.{◌-◌, ◌≤◌}
-use lib.ListN.{length, set}
+use lib.ListN.{length}
 use Rattle.words.specs.Bytes.{over, byte_of, series}
 use Rattle.sets.proofs.put_set.Given as goal
 

@@ -2,7 +2,7 @@
 use mathlib.Core.Path.{refl, sym, ap, ◌∙◌}
 use mathlib.Core.Bool.{not}
 use borrow.Author.Tests.{eq-eqb, ne_eqb}
-use Rattle.words.proofs.Choices.{and_fails, and_holds, means_off, means_on, taken}
+use Rattle.words.proofs.Choices.{and_fails, and_holds, means_off, means_on}
 use Rattle.sound.specs.Sound.{empty_sound}
 use Rattle.sound.proofs.empty_sound.Goals as goal
 

@@ -1,6 +1,5 @@
 -- `is_sound` meets its contract: the six tests and the counts' are the rule's seven, whatever their order.
 use mathlib.Core.Path.{sym, ◌∙◌}
-use borrow.Author.Tests.{not-true, not-false}
 use Rattle.words.proofs.Choices.{and_fails, and_holds}
 use Rattle.sound.proofs.SoundLaws.{six_and_counts}
 use Rattle.sound.proofs.is_sound.Goals as goal

@@ -2,7 +2,7 @@
 use mathlib.Core.Path.{sym, ap, ◌∙◌}
 use Prim.Native.Nat.{ℕ}
 use borrow.Author.Tests.{not-true, not-false}
-use Rattle.words.proofs.Choices.{and_fails, and_holds, means_off, means_on, taken}
+use Rattle.words.proofs.Choices.{and_fails, and_holds, means_off, means_on}
 use Rattle.words.specs.Choice.{◌is◌}
 use Rattle.sound.specs.Sound.{open_sound}
 use Rattle.sound.proofs.open_sound.Goals as goal

@@ -1,7 +1,7 @@
 -- `set_sound` meets its contract: the default is sound everywhere, and its tests are the rule's.
 use mathlib.Core.Path.{sym, ap, ◌∙◌}
 use mathlib.Core.Bool.{Bool, not}
-use borrow.Author.Tests.{ne_eqb, not-true, not-false}
+use borrow.Author.Tests.{ne_eqb}
 use Rattle.words.specs.Choice.{◌and◌}
 use Rattle.words.proofs.Choices.{and_end, and_last, means_off, means_on}
 use Rattle.sets.specs.Sets.{takes}

@@ -1,6 +1,5 @@
 -- `stands` meets its contract: the six tests and the counts' are the rule's seven, whatever their order.
 use mathlib.Core.Path.{sym, ◌∙◌}
-use borrow.Author.Tests.{not-true, not-false}
 use Rattle.words.proofs.Choices.{and_fails, and_holds}
 use Rattle.sound.proofs.SoundLaws.{six_and_counts}
 use Rattle.sound.proofs.stands.Goals as goal

@@ -1,7 +1,6 @@
 -- `state_sound` meets its contract: its six tests are the rule's, the set's before those of the card.
 use mathlib.Core.Path.{◌≡◌, sym, ◌∙◌}
 use mathlib.Core.Bool.{true}
-use borrow.Author.Tests.{not-true, not-false}
 use Rattle.words.proofs.Choices.{and_fails, and_holds}
 use Rattle.sound.specs.Sound.{page_size, empty_sound, idle_sound, type_sound, set_sound}
 use Rattle.sound.proofs.state_sound.Goals as goal

@@ -2,7 +2,7 @@
 use mathlib.Core.Path.{ap}
 use Prim.Native.Nat.{ℕ}
 use borrow.Author.Tests.{eq-eqb, ne_eqb}
-use Rattle.words.proofs.Choices.{or_taken, or_passed, taken}
+use Rattle.words.proofs.Choices.{or_taken, or_passed}
 use Rattle.words.specs.Choice.{◌is◌}
 use Rattle.sound.specs.Sound.{type_sound}
 use Rattle.sound.proofs.type_sound.Goals as goal

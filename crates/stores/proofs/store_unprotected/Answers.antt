@@ -40,10 +40,13 @@ returns-in_default c =
     let stored : c.store.new.image ≡ whole =
     c.store.ensures
     ∙ ap (sets l.image (a.at + l.i)) (tail_is l.i a.«data».now)
-    ∙ sym (l.invariant.2 ∙ rest_stored a.bits a.covered l.image a.at l.i a.«data».now (omega arith) (omega arith) none) in record { stored = stored; report = sym (ap (λ (x : List ℕ). ends_equal x a.at a.«data».now) stored
+    ∙ sym (l.invariant.2 ∙ rest_stored a.bits a.covered l.image a.at l.i a.«data».now (omega arith) (omega arith) none) in record {
+      stored = stored;
+      report = sym (ap (λ (x : List ℕ). ends_equal x a.at a.«data».now) stored
           ∙ l.invariant.3
           ∙ ap (λ (b : Bool). l.equal and b) (ap (λ (x : List ℕ). ends_equal x (a.at + l.i) (drop l.i a.«data».now)) l.invariant.2 ∙ left)
-          ∙ and_end l.equal) }
+          ∙ and_end l.equal);
+    }
 
 -- ---- it found a protected byte
 -- where
@@ -120,7 +123,7 @@ loop-k-preserved c =
           ∙ ap (λ (x : List ℕ). storing a.bits a.covered x (a.at + (end + 1)) (drop (end + 1) vs)) (sym c.store-in-loop-k.ensures),
       l.invariant.3 ∙ ap (λ (b : Bool). l.equal and b) seen
           ∙ (elim c.if-image-k.branch [
-            then-image-k w ↦ and_last l.equal (sym (and_fails left (ne_eqb _ _ w.if-image-k.true))) ∙ and_fails left w.equal-is
+            | then-image-k w ↦ and_last l.equal (sym (and_fails left (ne_eqb _ _ w.if-image-k.true))) ∙ and_fails left w.equal-is
             | else-image-k w ↦ ap (λ (b : Bool). l.equal and b) (sym (and_holds (eq-eqb _ _ w.if-image-k.false) refl)) ∙ ap (λ (b : Bool). b and left) (sym w.equal-is)
           ]),
     )
