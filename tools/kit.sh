@@ -83,26 +83,41 @@ need_session() {
 }
 
 # The static library: proved and built when it is missing, or older than a source of a crate in it. Of two scripts that need it at once
-# the second waits for the first.
+# the second waits for the first. need_library --proved: right behind rt ci, whose libraries are taken where they are there.
 need_library() {
     [ -n "$(crates_in "$crate")" ] || die "crates.txt has no crate $crate"
+    behind_ci=${1:-}
     # shellcheck disable=SC2046
     set -- $(sources "$crate")
     ! older "$library" "$@" || {
         flock 8
         if older "$library" "$@"; then
-            echo "$me: proving and building $library: some minutes where nothing is proved yet" >&2
-            run_rt "$crate" lib
-            keep_library "crates/$crate/out/lib$crate.a"
+            made=crates/$crate/out/lib$crate.a
+            if [ -z "$behind_ci" ] || ! over_proved; then
+                echo "$me: proving and building $library: some minutes where nothing is proved yet" >&2
+                run_rt "$crate" lib
+            fi
+            mkdir -p "${library%/*}"
+            cp "$made" "$library.$$"
+            mv "$library.$$" "$library"
         fi
     } 8<crates.txt
 }
 
-# keep_library FILE: the static library under its name for C, put in its place when it is whole.
-keep_library() {
-    mkdir -p "${library%/*}"
-    cp "$1" "$library.$$"
-    mv "$library.$$" "$library"
+# The static library, proved and built over the libraries that rt ci proved in this checkout just now. Those lie in out/rlib with no stamp;
+# where an rt check or rt lib of before has put its own there, or one is missing, this fails, and rt lib builds over what it kept.
+over_proved() {
+    set --
+    for name in $(crates_in "$crate"); do
+        [ "$name" != "$crate" ] || continue
+        rlib=../$name/out/rlib
+        [ -d "crates/$crate/$rlib/$name.rlib" ] && [ ! -e "crates/$crate/$rlib/stamp" ] || return 1
+        set -- "$@" --extern "$name=$rlib/$name.rlib" -L "dependency=$rlib"
+    done
+    mkdir -p "${made%/*}"
+    (cd "crates/$crate" && exec "$home/bin/rattle" build --crate-name "$crate" src/lib.rt --crate-type staticlib \
+        --extern "std=$home/rlibs/std.rlib" -L "dependency=$home/rlibs" "$@" --antt-project "$home/rattle/logic/antt-project.json" \
+        --logic-built "$home/logic_built" --toolchain "$tools" -o "out/lib$crate.a") </dev/null
 }
 
 # need_packages PACKAGE..: Debian's packages of these names, installed where they are missing.
