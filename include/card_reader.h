@@ -1,6 +1,6 @@
 /* The card reader for C: one host message, one card put in, one card taken out.
  *
- * Link libcard_reader.a, which `rt staticlib card_reader` writes to target/staticlib/. The library allocates nothing, keeps nothing
+ * Link libcard_reader.a, which `tools/library` writes to target/staticlib/. The library allocates nothing, keeps nothing
  * between calls, has no globals and calls nothing of C's: all it knows stands in the record and the image that the
  * caller lends it.
  * Any bytes may come as record, image and message; every call has its one result, which is proved. No call takes more than

@@ -2,28 +2,36 @@
 # A script sets `me`, its name in messages, and stands in the repository's folder when it builds.
 # shellcheck shell=sh
 
-# The crate with the calls for C, and the static library that `rt staticlib` makes of it.
-crate=card_reader
-library=target/staticlib/lib$crate.a
+# The crate that exports the calls for C, the static library that is made of it, and the session program as rt builds it.
+crate=card_reader_c
+library=target/staticlib/libcard_reader.a
+session=crates/session/out/session
 
 die() { printf '%s: %s\n' "${me:?}" "$*" >&2; exit 2; }
 
-# Finds the kit, that of rt on the PATH or of RATTLE_HOME where it is set: home, its folder; own, its part for this
-# machine; tools, the compiler, loader and C library there; emulator, empty where x86-64 programs run by themselves.
+# Finds the kit, that of rt on the PATH or of RATTLE_HOME where it is set: home, its folder; tools, the compiler, loader and C
+# library there; emulator, empty on x86-64, where the programs run by themselves.
 find_kit() {
     home=${RATTLE_HOME:-}
     if [ -z "$home" ]; then
         home=$(command -v rt) || die "no rt on the PATH: the Rattle kit is needed, or RATTLE_HOME set to its folder"
         home=$(cd "$(dirname "$(readlink -f "$home")")/.." && pwd -P)
     fi
-    own=$home/on/$(uname -m)
-    tools=$own/toolchain
+    tools=$home/toolchain
     loader=$tools/lib/ld-linux-x86-64.so.2
-    emulator=$tools/bin/qemu-x86_64
-    [ -f "$loader" ] || die "the kit at $home has no loader for x86-64 programs on this machine, $(uname -m)"
-    [ -x "$emulator" ] || emulator=''
+    [ -f "$loader" ] || die "the kit at $home has no loader for x86-64 programs"
+    emulator=''
+    [ "$(uname -m)" = x86_64 ] || find_emulator
     # The emulator listens to these, and no run is to depend on them.
     for word in $(env | sed -n 's/^\(QEMU_[A-Za-z0-9_]*\)=.*/\1/p'); do unset "$word"; done
+}
+
+# The kit's own emulator of x86-64, or Debian's.
+find_emulator() {
+    for emulator in "$tools/bin/qemu-x86_64" qemu-x86_64 qemu-x86_64-static; do
+        ! command -v "$emulator" >/dev/null 2>&1 || return 0
+    done
+    die "x86-64 programs need an emulator on this machine, $(uname -m): the Debian package qemu-user has one"
 }
 
 # older FILE SOURCE..: whether the file is missing, or older than a source or than anything in a folder of sources.
@@ -33,40 +41,83 @@ older() {
     [ ! -f "$made" ] || [ -n "$(find "$@" -newer "$made" 2>/dev/null | head -n 1)" ]
 }
 
-# run_rt WORDS..: runs rt and shows its progress, or all that it printed where it fails.
-run_rt() {
-    said=$(mktemp)
-    status=$({ { "$home/bin/rt" "$@" 2>&1; echo $? >&3; } | tee "$said" | sed -n 's/^rt: /  /p' >&2; } 3>&1)
-    [ "$status" -eq 0 ] || cat "$said" >&2
-    rm -f "$said"
-    [ "$status" -eq 0 ] || die "rt $* failed"
+# crates_in NAME: the crate and those below it, as its line of crates.txt has them.
+crates_in() { sed -n "s/^\($1\)\( [^:]*\)\{0,1\}:/\1/p" crates.txt; }
+
+# sources NAME: crates.txt, and the folders of sources of the crate and those below it.
+sources() {
+    echo crates.txt
+    for name in $(crates_in "$1"); do
+        for part in src specs proofs; do [ ! -d "crates/$name/$part" ] || echo "crates/$name/$part"; done
+    done
 }
 
-# The session program, where SESSION_PROGRAM names no other: proved and built when it is missing.
+# run_rt NAME WORDS..: runs rt in the crate's folder and shows its progress, or all that was printed where it fails.
+run_rt() {
+    folder=crates/$1
+    shift
+    said=$(mktemp)
+    status=$({ { (cd "$folder" && exec "$home/bin/rt" "$@") 2>&1 </dev/null; echo $? >&3; } | tee "$said" | sed -n 's/^rt: /  /p' >&2; } 3>&1)
+    [ "$status" -eq 0 ] || cat "$said" >&2
+    rm -f "$said"
+    [ "$status" -eq 0 ] || die "rt $* failed in $folder"
+}
+
+# The session program, where SESSION_PROGRAM names no other: proved and built when it is missing, or older than a source of a crate in it.
+# rt run proves, builds and runs it, on an empty input here, for which it prints nothing. Of two scripts that need it at once the second
+# waits for the first.
 need_session() {
-    if [ -z "${SESSION_PROGRAM:-}" ] && [ ! -f target/bin/session ]; then
-        find_kit
-        echo "$me: proving and building the session program, once: some minutes" >&2
-        run_rt check session
-        [ -f target/bin/session ] || die "rt takes target/bin/session for built, and it is not there: remove target/stamp/session"
-    fi
+    [ -z "${SESSION_PROGRAM:-}" ] || return 0
+    # shellcheck disable=SC2046
+    set -- $(sources session)
+    ! older "$session" "$@" || {
+        flock 8
+        if older "$session" "$@"; then
+            find_kit
+            echo "$me: proving and building the session program: some minutes where nothing is proved yet" >&2
+            run_rt session run
+            [ -f "$session" ] || die "rt run made no $session"
+            touch "$session"
+        fi
+    } 8<crates.txt
 }
 
 # The static library: proved and built when it is missing, or older than a source of a crate in it. Of two scripts that need it at once
-# the second waits for the first.
+# the second waits for the first. need_library --proved: right behind rt ci, whose libraries are taken where they are there.
 need_library() {
-    grep -q "^$crate:" crates.txt || die "crates.txt has no crate $crate"
-    set -- crates.txt
-    for name in "$crate" $(sed -n "s/^$crate://p" crates.txt); do
-        set -- "$@" "crates/$name/src" "crates/$name/specs" "crates/$name/proofs"
-    done
+    [ -n "$(crates_in "$crate")" ] || die "crates.txt has no crate $crate"
+    behind_ci=${1:-}
+    # shellcheck disable=SC2046
+    set -- $(sources "$crate")
     ! older "$library" "$@" || {
         flock 8
         if older "$library" "$@"; then
-            echo "$me: proving and building $library: a minute, or some where nothing is proved yet" >&2
-            run_rt staticlib "$crate"
+            made=crates/$crate/out/lib$crate.a
+            if [ -z "$behind_ci" ] || ! over_proved; then
+                echo "$me: proving and building $library: some minutes where nothing is proved yet" >&2
+                run_rt "$crate" lib
+            fi
+            mkdir -p "${library%/*}"
+            cp "$made" "$library.$$"
+            mv "$library.$$" "$library"
         fi
     } 8<crates.txt
+}
+
+# The static library, proved and built over the libraries that rt ci proved in this checkout just now. Those lie in out/rlib with no stamp;
+# where an rt check or rt lib of before has put its own there, or one is missing, this fails, and rt lib builds over what it kept.
+over_proved() {
+    set --
+    for name in $(crates_in "$crate"); do
+        [ "$name" != "$crate" ] || continue
+        rlib=../$name/out/rlib
+        [ -d "crates/$crate/$rlib/$name.rlib" ] && [ ! -e "crates/$crate/$rlib/stamp" ] || return 1
+        set -- "$@" --extern "$name=$rlib/$name.rlib" -L "dependency=$rlib"
+    done
+    mkdir -p "${made%/*}"
+    (cd "crates/$crate" && exec "$home/bin/rattle" build --crate-name "$crate" src/lib.rt --crate-type staticlib \
+        --extern "std=$home/rlibs/std.rlib" -L "dependency=$home/rlibs" "$@" --antt-project "$home/rattle/logic/antt-project.json" \
+        --logic-built "$home/logic_built" --toolchain "$tools" -o "out/lib$crate.a") </dev/null
 }
 
 # need_packages PACKAGE..: Debian's packages of these names, installed where they are missing.

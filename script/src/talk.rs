@@ -51,7 +51,7 @@ impl Over {
     /// The variable that names its command line, and the command line where it is not set.
     fn command(self) -> (&'static str, &'static str) {
         match self {
-            Over::Session => ("SESSION_PROGRAM", "tools/run-x86 target/bin/session"),
+            Over::Session => ("SESSION_PROGRAM", "tools/run-x86 crates/session/out/session"),
             Over::Trial => ("TRIAL_PROGRAM", "tools/run-x86 target/bin/trial"),
         }
     }

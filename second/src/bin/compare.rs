@@ -34,7 +34,7 @@ fn main() -> ExitCode {
             let second = Program::beside("trial")?;
             compare(&wanted, &first, &second, "cases", &count::trial_goals(), random::cases)
         } else {
-            let first = Program::from_variable("SESSION_PROGRAM", "tools/run-x86 target/bin/session")?;
+            let first = Program::from_variable("SESSION_PROGRAM", "tools/run-x86 crates/session/out/session")?;
             let second = Program::beside("session")?;
             compare(&wanted, &first, &second, "messages", &count::session_goals(), random::sessions)
         }

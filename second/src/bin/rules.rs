@@ -21,7 +21,7 @@ struct Tests {
 }
 
 fn main() -> ExitCode {
-    let program = match Program::from_variable("SESSION_PROGRAM", "tools/run-x86 target/bin/session") {
+    let program = match Program::from_variable("SESSION_PROGRAM", "tools/run-x86 crates/session/out/session") {
         Ok(program) => program,
         Err(text) => {
             eprintln!("session-rules: {}", text);
