@@ -6,6 +6,10 @@ use Prim.Native.Nat.{ℕ, ◌+◌, ◌-◌, ◌≤◌, ◌<◌}
 use native.Mathlib.Omega.{arith}
 use lib.ListN.{length, take, drop, length-drop}
 use lib.Seq.{length-take-le, take-take, take-add, drop-drop}
+use Rattle.std.specs.declared.option.Option.{Option}
+use Rattle.std.specs.Io.KnownBytes.{Consumes}
+use Rattle.std.proofs.KnownBytes.{Consumes-nil, Consumes-trans}
+use Rattle.std.proofs.lemmas.List.{drop_all, drop-append-le, length-append}
 use Rattle.words.specs.Bounds.{longest_record}
 use Rattle.words.specs.Bytes.{over}
 use Rattle.words.proofs.Lists.{front_laid, drop_take}
@@ -38,13 +42,26 @@ module _ (at end : ℕ) (l read : List ℕ) {slid : List ℕ} (w : end ≤ lengt
   pub same_part : part l at end ≡ part read 0 (end - at)
   same_part = sym (front_part (end - at) read ∙ f ∙ front_laid l (sym (length_part at end l w)) e)
 
+  pub more_is : (got : ℕ) → part read 0 (end - at + got) ≡ part l at end ++ take got (drop (end - at) read)
+  more_is got =
+      front_part (end - at + got) read ∙ take-add (end - at) got read
+      ∙ ap (λ (t : List ℕ). t ++ take got (drop (end - at) read)) (sym (front_part (end - at) read) ∙ sym same_part)
+
   pub more_part : (got : ℕ) → Grows (part l at end) (part read 0 (end - at + got))
-  more_part got = record {
-    came = take got (drop (end - at) read);
-    grown =
-        front_part (end - at + got) read ∙ take-add (end - at) got read
-        ∙ ap (λ (t : List ℕ). t ++ take got (drop (end - at) read)) (sym (front_part (end - at) read) ∙ sym same_part);
-  }
+  more_part got = record { came = take got (drop (end - at) read); grown = more_is got }
+
+-- ---- what is taken from the reader
+-- nothing yet
+pub taken_none : (a : Option (List ℕ)) (at end : ℕ) (l : List ℕ) → end ≤ length l → Consumes a a (drop (end - at) (part l at end))
+taken_none a at end l w = rw (drop_all (end - at) (part l at end) (omega (arith, length_part at end l w))) (Consumes-nil a)
+
+-- and more, behind the unused bytes, which are as many as those of the start and more
+pub taken_more : (a b c : Option (List ℕ)) (at end : ℕ) (l more : List ℕ) {u u' : List ℕ} → end ≤ length l → Grows (part l at end) u
+    → u' ≡ u ++ more → Consumes a b (drop (end - at) u) → Consumes b c more → Consumes a c (drop (end - at) u')
+taken_more a b c at end l more {u} {u'} w g e p q =
+    let n : ℕ = end - at in
+    let k : n ≤ length u = omega (arith, ap length g.grown, length-append (part l at end) g.came, length_part at end l w) in
+    subst (Consumes a c) (sym (ap (drop n) e ∙ drop-append-le n u more k)) (Consumes-trans a b c (drop n u) more p q)
 
 -- ---- a reading that wants more
 short_by : (l : List ℕ) (r : Record) → Fewer l 0 r → wants r ≡ true → length l < longest_record

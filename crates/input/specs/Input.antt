@@ -29,3 +29,7 @@ pub record Brings (input : List ℕ) (at end : ℕ) (left : List ℕ) (r : Broug
   pub unused : Grows (part input at end) (part left r.at r.end)
   pub ordered : r.at ≤ r.end
   pub within : r.end ≤ length left
+
+-- the bytes that came: those that stand behind what was unused before
+abbrev pub behind : ℕ → ℕ → List ℕ → Brought → List ℕ
+behind at end left r = drop (end - at) (part left r.at r.end)

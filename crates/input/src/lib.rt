@@ -1,13 +1,15 @@
 // The input of a session: standard input is brought into a buffer, no further than the record needs that stands first.
 // Inner functions: each says every byte of the buffer that does not come from the system, and asks that the places lie in it.
+#![tactic(auto)]
 
 ghost use Rattle.std.specs.Prelude.{◌≡◌, ◌+◌, ◌≤◌, ◌<◌, length, take, drop};
 ghost use Rattle.words.specs.Bytes.{over};
 ghost use Rattle.words.specs.Bounds.{longest_record};
-ghost use Rattle.input.specs.Input.{wants, Brings};
+ghost use Rattle.input.specs.Input.{wants, behind, Brings};
+ghost use Rattle.std.specs.Io.KnownBytes.{Consumes};
 
-use libc::STDIN_FILENO;
 use records::Record;
+use std::io::Read;
 
 // The record that stands first among the unused bytes of the buffer, and where these lie.
 #[derive(Clone, Copy)]
@@ -32,14 +34,17 @@ fn slide(input: &mut [u8], at: usize, n: usize)
     }
 }
 
-// One read behind the bytes that stand there, which stay: how many came, 0 at the end of the input. There is room for one byte at least, so
-// that 0 is not what a full buffer gives.
-fn read_more(input: &mut [u8], end: usize) -> usize
+// One read behind the bytes that stand there, which stay: how many came, 0 at the end of the input, and where the read failed. There is room
+// for one byte at least, so that 0 is not what a full buffer gives. Where it is known what the reader has left, these are the next of that.
+fn read_more<R: Read>(reader: &mut R, input: &mut [u8], end: usize) -> usize
     requires { end < length input.old }
-    ensures { (end + result ≤ length input.old) × (take end input.new ≡ take end input.old) }
+    ensures places { (end + result ≤ length input.old) × (take end input.new ≡ take end input.old) }
+    ensures taken { Consumes (R.remaining reader.old) (R.remaining reader.new) (take result (drop end input.new)) }
 {
-    let got = libc::read(STDIN_FILENO, &mut input[end..]);
-    io::count(got, &input[end..])
+    match reader.read(&mut input[end..]) {
+        Ok(n) => n,
+        Err(_) => 0,
+    }
 }
 
 // Whether more input can make another reading of it.
@@ -59,9 +64,11 @@ fn wants_more(found: Record) -> bool
 }
 
 // Reads on until the record at the front of the unused bytes is there whole, or is bad, or the input ends: no further than that record needs.
-pub fn bring(input: &mut [u8], from: usize, to: usize) -> Brought
+// What it takes from the reader stands behind the bytes that were unused before, and nothing else is taken.
+pub fn bring<R: Read>(reader: &mut R, input: &mut [u8], from: usize, to: usize) -> Brought
     requires { (longest_record ≤ length input.old) × (from ≤ to) × (to ≤ length input.old) }
-    ensures { Brings input.old from to input.new result }
+    ensures brings { Brings input.old from to input.new result }
+    ensures taken { Consumes (R.remaining reader.old) (R.remaining reader.new) (behind from to input.new result) }
 {
     let mut at = from;
     let mut end = to;
@@ -73,7 +80,7 @@ pub fn bring(input: &mut [u8], from: usize, to: usize) -> Brought
         slide(input, at, end - at);
         end -= at;
         at = 0;
-        let got = read_more(input, end);
+        let got = read_more(reader, input, end);
         if got == 0 {
             return Brought { found, at, end };
         }
