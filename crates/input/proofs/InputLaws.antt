@@ -1,11 +1,11 @@
 -- Laws of the input: the unused bytes slide to the front, what is read stands behind them, and a reading that wants more leaves room for it.
 use mathlib.Core.Path.{◌≡◌, sym, ap, ◌∙◌, subst}
-use mathlib.Core.Bool.{true, false≢true}
+use mathlib.Core.Bool.{true, false, false≢true}
 use mathlib.Core.List.{List, [], ◌++◌, append-nil, append_assoc}
 use Prim.Native.Nat.{ℕ, ◌+◌, ◌-◌, ◌≤◌, ◌<◌}
 use native.Mathlib.Omega.{arith}
 use lib.ListN.{length, take, drop, length-drop}
-use lib.Seq.{length-take-le, take-take, take-add, drop-drop}
+use lib.Seq.{length-take-le, take-take, take-add, drop-drop, drop-append_seam}
 use Rattle.std.specs.declared.option.Option.{Option}
 use Rattle.std.specs.Io.KnownBytes.{Consumes}
 use Rattle.std.proofs.KnownBytes.{Consumes-nil, Consumes-trans}
@@ -18,7 +18,7 @@ use Rattle.records.specs.declared.Record.{Record}
 use Rattle.records.specs.declared.Record.TheVariants.{Whole, Cut, Bad, End}
 use Rattle.records.specs.Records.{record_at}
 use Rattle.records.proofs.RecordLaws.{Fewer, record_short, whole_within}
-use Rattle.input.specs.Input.{part, wants, Grows, Brings}
+use Rattle.input.specs.Input.{part, wants, behind, Grows, Brings}
 use Rattle.input.specs.declared.Brought.{Brought}
 
 -- ---- what is unused
@@ -63,12 +63,23 @@ taken_more a b c at end l more {u} {u'} w g e p q =
     let k : n ≤ length u = omega (arith, ap length g.grown, length-append (part l at end) g.came, length_part at end l w) in
     subst (Consumes a c) (sym (ap (drop n) e ∙ drop-append-le n u more k)) (Consumes-trans a b c (drop n u) more p q)
 
+-- what came, of bytes that are brought
+pub behind_came : {input left : List ℕ} {at end : ℕ} {r : Brought} (p : Brings input at end left r) → end ≤ length input
+    → behind at end left r ≡ p.unused.came
+behind_came {input} {at = at} {end} p w =
+    ap (drop (end - at)) p.unused.grown ∙ ap (λ (n : ℕ). drop n (part input at end ++ p.unused.came)) (sym (length_part at end input w))
+    ∙ drop-append_seam (part input at end) p.unused.came
+
 -- ---- a reading that wants more
 short_by : (l : List ℕ) (r : Record) → Fewer l 0 r → wants r ≡ true → length l < longest_record
 short_by l (Whole mark start end) s e = absurd (false≢true e)
 short_by l Cut s e = omega arith
 short_by l Bad s e = absurd (false≢true e)
 short_by l End s e = omega arith
+
+-- is not of bytes that settle it
+pub unsettled : (u v : List ℕ) {r : Record} → r ≡ record_at u 0 → wants r ≡ true → u ≡ v → wants (record_at v 0) ≡ false → ⊥
+unsettled u v e m p h = cc
 
 -- leaves room in a buffer that holds the longest record
 pub wants_room : (at end : ℕ) (l : List ℕ) {r : Record} → end ≤ length l → r ≡ record_at (part l at end) 0 → wants r ≡ true → end - at < longest_record

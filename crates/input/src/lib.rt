@@ -2,10 +2,11 @@
 // Inner functions: each says every byte of the buffer that does not come from the system, and asks that the places lie in it.
 #![tactic(auto)]
 
-ghost use Rattle.std.specs.Prelude.{◌≡◌, ◌+◌, ◌≤◌, ◌<◌, length, take, drop};
+ghost use Rattle.std.specs.Prelude.{◌≡◌, false, ◌+◌, ◌≤◌, ◌<◌, length, take, drop};
 ghost use Rattle.words.specs.Bytes.{over};
 ghost use Rattle.words.specs.Bounds.{longest_record};
-ghost use Rattle.input.specs.Input.{wants, behind, Brings};
+ghost use Rattle.records.specs.Records.{record_at};
+ghost use Rattle.input.specs.Input.{part, wants, behind, Brings};
 ghost use Rattle.std.specs.Io.KnownBytes.{Consumes};
 
 use records::Record;
@@ -69,6 +70,7 @@ pub fn bring<R: Read>(reader: &mut R, input: &mut [u8], from: usize, to: usize) 
     requires { (longest_record ≤ length input.old) × (from ≤ to) × (to ≤ length input.old) }
     ensures brings { Brings input.old from to input.new result }
     ensures taken { Consumes (R.remaining reader.old) (R.remaining reader.new) (behind from to input.new result) }
+    ensures no_further { wants (record_at (part input.old from to) 0) ≡ false → reader.new ≡ reader.old }
 {
     let mut at = from;
     let mut end = to;
