@@ -2,12 +2,12 @@
 // Inner functions: each says every byte of the buffer that does not come from the system, and asks that the places lie in it.
 #![tactic(auto)]
 
-ghost use Rattle.std.specs.Prelude.{◌≡◌, false, ◌+◌, ◌≤◌, ◌<◌, length, take, drop};
+ghost use Rattle.std.specs.Prelude.{◌≡◌, true, false, ◌+◌, ◌≤◌, ◌<◌, length, take, drop};
 ghost use Rattle.words.specs.Bytes.{over};
 ghost use Rattle.words.specs.Bounds.{longest_record};
 ghost use Rattle.records.specs.Records.{record_at};
 ghost use Rattle.input.specs.Input.{part, wants, behind, Brings};
-ghost use Rattle.std.specs.Io.KnownBytes.{Consumes};
+ghost use Rattle.std.specs.Io.KnownBytes.{Consumes, IsAtEnd};
 
 use records::Record;
 use std::io::Read;
@@ -18,6 +18,13 @@ pub struct Brought {
     pub found: Record,
     pub at: usize,
     pub end: usize,
+}
+
+// A reader, and whether a read of it failed. Its input counts as ended there.
+#[derive(Drop)]
+pub struct Source<R> {
+    pub reader: R,
+    pub failed: bool,
 }
 
 // The unused bytes go to the front of the buffer.
@@ -37,14 +44,18 @@ fn slide(input: &mut [u8], at: usize, n: usize)
 
 // One read behind the bytes that stand there, which stay: how many came, 0 at the end of the input, and where the read failed. There is room
 // for one byte at least, so that 0 is not what a full buffer gives. Where it is known what the reader has left, these are the next of that.
-fn read_more<R: Read>(reader: &mut R, input: &mut [u8], end: usize) -> usize
+fn read_more<R: Read>(source: &mut Source<R>, input: &mut [u8], end: usize) -> usize
     requires { end < length input.old }
     ensures places { (end + result ≤ length input.old) × (take end input.new ≡ take end input.old) }
-    ensures taken { Consumes (R.remaining reader.old) (R.remaining reader.new) (take result (drop end input.new)) }
+    ensures taken { Consumes (R.remaining source.old.reader) (R.remaining source.new.reader) (take result (drop end input.new)) }
+    ensures ended { result ≡ 0 → source.new.failed ≡ false → IsAtEnd (R.remaining source.new.reader) }
 {
-    match reader.read(&mut input[end..]) {
+    match source.reader.read(&mut input[end..]) {
         Ok(n) => n,
-        Err(_) => 0,
+        Err(_) => {
+            source.failed = true;
+            0
+        }
     }
 }
 
@@ -66,11 +77,12 @@ fn wants_more(found: Record) -> bool
 
 // Reads on until the record at the front of the unused bytes is there whole, or is bad, or the input ends: no further than that record needs.
 // What it takes from the reader stands behind the bytes that were unused before, and nothing else is taken.
-pub fn bring<R: Read>(reader: &mut R, input: &mut [u8], from: usize, to: usize) -> Brought
+pub fn bring<R: Read>(source: &mut Source<R>, input: &mut [u8], from: usize, to: usize) -> Brought
     requires { (longest_record ≤ length input.old) × (from ≤ to) × (to ≤ length input.old) }
     ensures brings { Brings input.old from to input.new result }
-    ensures taken { Consumes (R.remaining reader.old) (R.remaining reader.new) (behind from to input.new result) }
-    ensures no_further { wants (record_at (part input.old from to) 0) ≡ false → reader.new ≡ reader.old }
+    ensures taken { Consumes (R.remaining source.old.reader) (R.remaining source.new.reader) (behind from to input.new result) }
+    ensures no_further { wants (record_at (part input.old from to) 0) ≡ false → source.new ≡ source.old }
+    ensures ended { wants result.found ≡ true → source.new.failed ≡ false → IsAtEnd (R.remaining source.new.reader) }
 {
     let mut at = from;
     let mut end = to;
@@ -82,7 +94,7 @@ pub fn bring<R: Read>(reader: &mut R, input: &mut [u8], from: usize, to: usize) 
         slide(input, at, end - at);
         end -= at;
         at = 0;
-        let got = read_more(reader, input, end);
+        let got = read_more(source, input, end);
         if got == 0 {
             return Brought { found, at, end };
         }

@@ -2,11 +2,12 @@
 -- comes in pieces.
 use Prim.Native.Nat.{ℕ, ◌+◌, ◌-◌, ◌≤◌}
 use mathlib.Core.Path.{◌≡◌, refl, sym, ap, ap₂, ◌∙◌, subst}
-use mathlib.Core.Bool.{false}
+use mathlib.Core.Bool.{true, false, true≢false}
 use mathlib.Core.List.{List, [], ◌++◌, append_assoc}
 use lib.ListN.{length, take, drop}
 use Rattle.std.specs.declared.option.Option.{Option}
-use Rattle.std.specs.Io.KnownBytes.{Consumes, Appends}
+use Rattle.std.specs.Prelude.{None, Some, IfSome}
+use Rattle.std.specs.Io.KnownBytes.{Consumes, Appends, IsAtEnd}
 use Rattle.std.proofs.KnownBytes.{Consumes-nil, Consumes-trans, Appends-nil, Appends-trans}
 use Rattle.slot.specs.declared.Slot.{Slot}
 use Rattle.slot.specs.Slots.{removed}
@@ -18,7 +19,7 @@ use Rattle.sitting.specs.declared.Held.{Held}
 use Rattle.lines.specs.Lines.{Puts}
 use Rattle.lines.proofs.LineLaws.{puts_front}
 use Rattle.input.specs.declared.Brought.{Brought}
-use Rattle.input.specs.Input.{part, behind, Brings}
+use Rattle.input.specs.Input.{part, wants, behind, Brings}
 use Rattle.input.proofs.InputLaws.{behind_came, brought_whole, part_inner, part_behind}
 use Rattle.printed.specs.declared.Turned.{Turned}
 use Rattle.printed.specs.Turns.{Turns}
@@ -107,6 +108,22 @@ pub between_start : (a b : Option (List ℕ)) (input : List ℕ) (h : Held) (ima
 unfolding since_start
 between_start a b input h image = record { since = since_start input h image; taken = Consumes-nil a; given = Appends-nil b }
 
+-- what stands unread behind the reading that stops it: nothing, where the reader is at its end, or whatever is behind a bad record
+left_unread : (last : Record) (ys : List ℕ) → whole last ≡ false → (wants last ≡ true → ys ≡ []) → Unread last ys
+left_unread (Whole mark start end) ys o f = absurd (true≢false o)
+left_unread Cut ys o f = f refl
+left_unread Bad ys o f = tt
+left_unread End ys o f = f refl
+
+-- so all that the reader had is what came and what stands unread
+whole_input : (read read' written written' : Option (List ℕ)) (came handed : List ℕ) (last : Record) → whole last ≡ false → Consumes read read' came
+    → Appends written written' handed → ((unread : List ℕ) → Unread last unread → handed ≡ printed (came ++ unread)) → (wants last ≡ true → IsAtEnd read')
+    → IfSome read (λ (xs : List ℕ). Appends written written' (printed xs))
+whole_input None read' written written' came handed last o t g p f = tt
+whole_input (Some xs) None written written' came handed last o t g p f = absurd t
+whole_input (Some xs) (Some ys) written written' came handed last o t g p f =
+    subst (Appends written written') (p ys (left_unread last ys o f) ∙ ap printed (sym t)) g
+
 -- what the reader had at the start, before and after a turn, and what the writer had
 module _ (read read' read'' written written' written'' : Option (List ℕ)) {input image input' left image' : List ℕ} {at end : ℕ} {h h' : Held}
     {b : Brought} (s : Between read read' written written' input h image input' at end h' image') (w : end ≤ length input')
@@ -136,3 +153,12 @@ module _ (read read' read'' written written' written'' : Option (List ℕ)) {inp
         given = Appends-trans written written' written'' s.since.handed (take n told) s.given y;
         prints = ran_prints r;
       }
+
+  -- where the input came to its end, or to a bad record
+  pub all_printed : {blank told : List ℕ} {n : ℕ} → h.slot ≡ removed → h.size ≡ 0 → whole b.found ≡ false → Puts (parting b.found) n blank told
+      → Appends written' written'' (take n told) → (wants b.found ≡ true → IsAtEnd read'')
+      → IfSome read (λ (xs : List ℕ). Appends written written'' (printed xs))
+  unfolding since_end passed_end
+  all_printed e z o q y f =
+      let r = passed_end e z o q y in
+      whole_input read read'' written written'' r.ran.came r.ran.handed b.found o r.taken r.given r.prints f

@@ -4,12 +4,13 @@
 // one and written to the other, where these are known. That the system brings and takes these bytes no contract can say.
 #![tactic(auto)]
 
-ghost use Rattle.std.specs.Prelude.{◌≡◌, true, ◌≤◌, length, take};
+ghost use Rattle.std.specs.Prelude.{◌≡◌, true, false, ◌≤◌, length, take, IfSome};
 ghost use Rattle.std.specs.Io.KnownBytes.{Appends};
 ghost use Rattle.words.specs.Bounds.{longest_record};
+ghost use Rattle.printed.specs.Printed.{printed};
 ghost use Rattle.session.specs.Courses.{Ran, Passed};
 
-use input::bring;
+use input::{Source, bring};
 use records::Record;
 use std::io::{Read, Write};
 use words::{LARGEST_HELD, LINE, RECORD, ROOM};
@@ -32,9 +33,9 @@ fn hand<W: Write, E: Write>(output: &mut W, errors: &mut E, out: &[u8], n: usize
 }
 
 // Record after record; the reading that is not a whole one stops it. True where it ran its course and all of it was taken: not where the output
-// was not taken, nor at the most records.
+// was not taken, nor at the most records. Where no read failed besides, what was written is what the program prints of all that the reader had.
 fn session<R: Read, W: Write, E: Write>(
-    reader: &mut R,
+    source: &mut Source<R>,
     output: &mut W,
     errors: &mut E,
     input: &mut [u8],
@@ -44,14 +45,16 @@ fn session<R: Read, W: Write, E: Write>(
 ) -> bool
     requires { longest_record ≤ length input.old }
     ensures ran { result ≡ true → Ran input.old image.old }
-    ensures passed { result ≡ true → Passed (R.remaining reader.old) (R.remaining reader.new)
+    ensures passed { result ≡ true → Passed (R.remaining source.old.reader) (R.remaining source.new.reader)
         (W.contents output.old) (W.contents output.new) input.old image.old }
+    ensures prints { result ≡ true → source.new.failed ≡ false → IfSome (R.remaining source.old.reader)
+        (λ xs. Appends (W.contents output.old) (W.contents output.new) (printed xs)) }
 {
     let mut held = sitting::start();
     let mut at = 0;
     let mut end = 0;
     for _ in 0..RECORDS {
-        let brought = bring(reader, input, at, end);
+        let brought = bring(source, input, at, end);
         at = brought.at;
         end = brought.end;
         let found = brought.found;
@@ -79,7 +82,10 @@ fn session<R: Read, W: Write, E: Write>(
 
 // The input buffer holds the longest whole record.
 fn main(rt: HostRuntime) {
-    let mut reader = rt.stdin();
+    let mut source = Source {
+        reader: rt.stdin(),
+        failed: false,
+    };
     let mut output = rt.stdout();
     let mut errors = rt.stderr();
     let mut input = [0u8; RECORD];
@@ -87,7 +93,7 @@ fn main(rt: HostRuntime) {
     let mut answer = [0u8; ROOM];
     let mut out = [0u8; LINE];
     session(
-        &mut reader,
+        &mut source,
         &mut output,
         &mut errors,
         &mut input,

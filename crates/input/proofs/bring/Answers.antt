@@ -48,7 +48,7 @@ returns-then-got-eq0-clause-taken g c =
     let l = c.loop-found in
     let r = c.read_more-got in
     let p = same_part l.at l.end l.input r.new.input l.invariant.within c.slide.ensures r.ensures.places.1 in
-    let none = subst (λ (k : ℕ). Consumes (g.R.Read.remaining l.reader) (g.R.Read.remaining r.new.reader) (take k (drop (l.end - l.at) r.new.input)))
+    let none = subst (λ (k : ℕ). Consumes (g.R.Read.remaining l.source.reader) (g.R.Read.remaining r.new.source.reader) (take k (drop (l.end - l.at) r.new.input)))
     c.if-got-eq0.true r.ensures.taken in
     taken_more _ _ _ a.from a.to a.input.now [] (omega arith) l.invariant.unused (sym p ∙ sym (append-nil _)) l.invariant.taken none
 

@@ -12,9 +12,9 @@ invariant-loop-found g l = record {
   within : l.end ≤ length l.input;
   same_length : length l.input ≡ length l.initial.input;
   unused : Grows (part l.initial.input l.from l.to) (part l.input l.at l.end);
-  taken : Consumes (g.R.Read.remaining l.initial.reader) (g.R.Read.remaining l.reader) (drop (l.to - l.from) (part l.input l.at l.end));
+  taken : Consumes (g.R.Read.remaining l.initial.source.reader) (g.R.Read.remaining l.source.reader) (drop (l.to - l.from) (part l.input l.at l.end));
   no_further : wants (record_at (part l.initial.input l.from l.to) 0) ≡ false
-      → (part l.input l.at l.end ≡ part l.initial.input l.from l.to) × (l.reader ≡ l.initial.reader);
+      → (part l.input l.at l.end ≡ part l.initial.input l.from l.to) × (l.source ≡ l.initial.source);
 }
 
 abbrev pub decreases-loop-found : goal.decreases-loop-found

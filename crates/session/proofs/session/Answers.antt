@@ -1,7 +1,7 @@
 use Rattle.std.proofs.Common.{◌≡◌, true, arith, rules, ◌∙◌}
 use Rattle.lines.proofs.LineLaws.{puts_fit}
 use Rattle.input.proofs.InputLaws.{brought_whole}
-use Rattle.session.proofs.Told.{between_start, between_turn, not_whole, passed_end}
+use Rattle.session.proofs.Told.{between_start, between_turn, not_whole, passed_end, all_printed}
 use Rattle.session.proofs.session.Goals as goal
 
 pub loop-init : goal.loop-init
@@ -23,7 +23,13 @@ returns-in_default g c =
     let o = not_whole b.result.found c.in_default.not-Whole in
     let passed = λ (y : c.hand.result ≡ true).
     passed_end _ _ _ _ _ _ l.between l.within b.ensures.brings b.ensures.taken s.0 s.1 o c.leave-n.ensures (c.hand.ensures y) in
-    record { ran = λ y. (passed y).ran; passed = passed }
+    record {
+      ran = λ y. (passed y).ran;
+      passed = passed;
+      prints = λ y f.
+          all_printed _ _ _ _ _ _ l.between l.within b.ensures.brings b.ensures.taken s.0 s.1 o c.leave-n.ensures (c.hand.ensures y)
+          (λ h. b.ensures.ended h f);
+    }
 
 pub overflow_add-first : goal.overflow_add-first
 overflow_add-first g c = omega (arith, brought_whole c.bring-brought.ensures.brings c.in-Whole.is)

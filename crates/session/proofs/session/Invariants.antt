@@ -9,6 +9,6 @@ invariant-loop g l = record {
   ordered : l.at ≤ l.end;
   within : l.end ≤ length l.input;
   same_length : length l.input ≡ length l.initial.input;
-  between : Between (g.R.Read.remaining l.initial.reader) (g.R.Read.remaining l.reader) (g.W.Write.contents l.initial.output)
+  between : Between (g.R.Read.remaining l.initial.source.reader) (g.R.Read.remaining l.source.reader) (g.W.Write.contents l.initial.output)
       (g.W.Write.contents l.output) l.initial.input l.initial.held l.initial.image l.input l.at l.end l.held l.image;
 }
