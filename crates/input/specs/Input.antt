@@ -1,5 +1,5 @@
 -- The input of the session program as it stands in the buffer: the bytes that came and are not used yet, and what bringing more of them
--- leaves. No contract can say which bytes a read brings; these say where they stand.
+-- leaves. Which bytes a read brings the reader alone can say, and the system's says nothing; these say where they stand.
 use Rattle.std.specs.Prelude.{ℕ, ◌-◌, ◌≤◌, ◌≡◌, Bool, true, false, List, ◌++◌, length, take, drop}
 use Rattle.records.specs.declared.Record.{Record}
 use Rattle.records.specs.declared.Record.TheVariants.{Whole, Cut, Bad, End}

@@ -1,5 +1,5 @@
-// The input of a session: standard input is brought into a buffer, no further than the record needs that stands first.
-// Inner functions: each says every byte of the buffer that does not come from the system, and asks that the places lie in it.
+// The input of a session: what a reader gives, as standard input, is brought into a buffer, no further than the record needs that stands first.
+// Inner functions: each says every byte of the buffer that does not come from the reader, and asks that the places lie in it.
 #![tactic(auto)]
 
 ghost use Rattle.std.specs.Prelude.{◌≡◌, true, false, ◌+◌, ◌≤◌, ◌<◌, length, take, drop};
