@@ -1,5 +1,5 @@
 -- The input of the session program as it stands in the buffer: the bytes that came and are not used yet, and what bringing more of them
--- leaves. No contract can say which bytes a read brings; these say where they stand.
+-- leaves. Which bytes a read brings the reader alone can say, and the system's says nothing; these say where they stand.
 use Rattle.std.specs.Prelude.{ℕ, ◌-◌, ◌≤◌, ◌≡◌, Bool, true, false, List, ◌++◌, length, take, drop}
 use Rattle.records.specs.declared.Record.{Record}
 use Rattle.records.specs.declared.Record.TheVariants.{Whole, Cut, Bad, End}
@@ -29,3 +29,7 @@ pub record Brings (input : List ℕ) (at end : ℕ) (left : List ℕ) (r : Broug
   pub unused : Grows (part input at end) (part left r.at r.end)
   pub ordered : r.at ≤ r.end
   pub within : r.end ≤ length left
+
+-- the bytes that came: those that stand behind what was unused before
+abbrev pub behind : ℕ → ℕ → List ℕ → Brought → List ℕ
+behind at end left r = drop (end - at) (part left r.at r.end)

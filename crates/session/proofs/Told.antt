@@ -1,33 +1,32 @@
 -- What a session hands over is `printed` of what it was sent: the contracts of `bring`, `turn` and `leave` put together, however the input
 -- comes in pieces.
-use Prim.Native.Nat.{ℕ, ◌+◌, ◌-◌}
-use mathlib.Core.Path.{◌≡◌, refl, sym, ap, ap₂, ◌∙◌}
-use mathlib.Core.Bool.{false}
-use mathlib.Core.Logic.{⊎_elim}
-use mathlib.Core.List.{List, [], ◌∷◌, ◌++◌, append_assoc}
-use native.Mathlib.Omega.{arith}
-use lib.ListN.{take, drop}
-use denote.Enum.Declared.{tag_of}
-use types.Run.{OneOf}
+use Prim.Native.Nat.{ℕ, ◌+◌, ◌-◌, ◌≤◌}
+use mathlib.Core.Path.{◌≡◌, refl, sym, ap, ap₂, ◌∙◌, subst}
+use mathlib.Core.Bool.{true, false, true≢false}
+use mathlib.Core.List.{List, [], ◌++◌, append_assoc}
+use lib.ListN.{length, take, drop}
+use Rattle.std.specs.declared.option.Option.{Option}
+use Rattle.std.specs.Prelude.{None, Some, IfSome}
+use Rattle.std.specs.Io.KnownBytes.{Consumes, Appends, IsAtEnd}
+use Rattle.std.proofs.KnownBytes.{Consumes-nil, Consumes-trans, Appends-nil, Appends-trans}
 use Rattle.slot.specs.declared.Slot.{Slot}
 use Rattle.slot.specs.Slots.{removed}
 use Rattle.records.specs.declared.Mark.{Mark}
 use Rattle.records.specs.declared.Record.{Record}
 use Rattle.records.specs.declared.Record.TheVariants.{Whole, Cut, Bad, End}
 use Rattle.records.specs.Records.{record_at}
-use Rattle.records.specs.contracts.Record.{the_type}
 use Rattle.sitting.specs.declared.Held.{Held}
 use Rattle.lines.specs.Lines.{Puts}
 use Rattle.lines.proofs.LineLaws.{puts_front}
 use Rattle.input.specs.declared.Brought.{Brought}
-use Rattle.input.specs.Input.{part, Brings}
-use Rattle.input.proofs.InputLaws.{brought_whole, part_inner, part_behind}
+use Rattle.input.specs.Input.{part, wants, behind, Brings}
+use Rattle.input.proofs.InputLaws.{behind_came, brought_whole, part_inner, part_behind}
 use Rattle.printed.specs.declared.Turned.{Turned}
 use Rattle.printed.specs.Turns.{Turns}
 use Rattle.printed.specs.Printed.{comes_of, line_of, whole, parting, Unread, prints, printed}
 use Rattle.printed.proofs.Printing.{whole_prints, stop_prints}
 use Rattle.printed.proofs.TurnLaws.{turned_image, turned_line}
-use Rattle.session.specs.Courses.{Course, turns, stops, Ran, Since}
+use Rattle.session.specs.Courses.{Course, turns, stops, Ran, Passed, Since, Between}
 
 -- a whole record among the unused bytes u: its line, and what is printed of what is left
 step : (u came : List ℕ) (s : Slot) (image : List ℕ) {mark : Mark} {start next : ℕ} {body line rest left i : List ℕ} {t : Slot}
@@ -84,9 +83,9 @@ since_turn {told = told} {t = t} s p e q =
       goes = λ c d k. rw (append_assoc s.came, append_assoc s.handed) (s.goes (p.unused.came ++ c) (line ++ d) (turns p e q k));
     }
 
--- and the last: a reading that is not of a whole record, by its place among the cases
-pub not_whole : (r : Record) → OneOf (1 ∷ 2 ∷ 3 ∷ []) (tag_of the_type r) → whole r ≡ false
-not_whole (Whole mark start end) k = absurd (⊎_elim (λ e. omega arith) (λ l. ⊎_elim (λ e. omega arith) (λ e. omega arith) l) k)
+-- and the last: a reading that is not of a whole record
+pub not_whole : (r : Record) → ((mark : Mark) (start end : ℕ) → r ≡ Whole mark start end → ⊥) → whole r ≡ false
+not_whole (Whole mark start end) k = absurd (k mark start end refl)
 not_whole Cut k = refl
 not_whole Bad k = refl
 not_whole End k = refl
@@ -103,3 +102,63 @@ since_end {told = told} {n = n} {h = h} {b = b} e z s p o q = record {
   handed = s.handed ++ take n told;
   course = λ unread u. rw (append_assoc s.came) (s.goes (p.unused.came ++ unread) (take n told) (stops unread p o u q));
 }
+
+-- ---- between a reader and a writer
+pub between_start : (a b : Option (List ℕ)) (input : List ℕ) (h : Held) (image : List ℕ) → Between a a b b input h image input 0 0 h image
+unfolding since_start
+between_start a b input h image = record { since = since_start input h image; taken = Consumes-nil a; given = Appends-nil b }
+
+-- what stands unread behind the reading that stops it: nothing, where the reader is at its end, or whatever is behind a bad record
+left_unread : (last : Record) (ys : List ℕ) → whole last ≡ false → (wants last ≡ true → ys ≡ []) → Unread last ys
+left_unread (Whole mark start end) ys o f = absurd (true≢false o)
+left_unread Cut ys o f = f refl
+left_unread Bad ys o f = tt
+left_unread End ys o f = f refl
+
+-- so all that the reader had is what came and what stands unread
+whole_input : (read read' written written' : Option (List ℕ)) (came handed : List ℕ) (last : Record) → whole last ≡ false → Consumes read read' came
+    → Appends written written' handed → ((unread : List ℕ) → Unread last unread → handed ≡ printed (came ++ unread)) → (wants last ≡ true → IsAtEnd read')
+    → IfSome read (λ (xs : List ℕ). Appends written written' (printed xs))
+whole_input None read' written written' came handed last o t g p f = tt
+whole_input (Some xs) None written written' came handed last o t g p f = absurd t
+whole_input (Some xs) (Some ys) written written' came handed last o t g p f =
+    subst (Appends written written') (p ys (left_unread last ys o f) ∙ ap printed (sym t)) g
+
+-- what the reader had at the start, before and after a turn, and what the writer had
+module _ (read read' read'' written written' written'' : Option (List ℕ)) {input image input' left image' : List ℕ} {at end : ℕ} {h h' : Held}
+    {b : Brought} (s : Between read read' written written' input h image input' at end h' image') (w : end ≤ length input')
+    (p : Brings input' at end left b) (x : Consumes read' read'' (behind at end left b)) where
+  -- what was taken since the start
+  taken_more : Consumes read read'' (s.since.came ++ p.unused.came)
+  taken_more = Consumes-trans read read' read'' s.since.came p.unused.came s.taken (subst (Consumes read' read'') (behind_came p w) x)
+
+  pub between_turn : {kept was holds blank told : List ℕ} {start next : ℕ} {mark : Mark} {t : Turned} → b.found ≡ Whole mark start next
+      → Turns mark (comes_of mark (part left (b.at + start) (b.at + next)) h'.slot (take h'.size image')) t image' kept was holds blank told
+      → Appends written' written'' (take t.len told) → Between read read'' written written'' input h image left (b.at + next) b.end t.held kept
+  unfolding since_turn
+  between_turn {told = told} {t = t} e q y = record {
+    since = since_turn s.since p e q;
+    taken = taken_more;
+    given = Appends-trans written written' written'' s.since.handed (take t.len told) s.given y;
+  }
+
+  pub passed_end : {blank told : List ℕ} {n : ℕ} → h.slot ≡ removed → h.size ≡ 0 → whole b.found ≡ false → Puts (parting b.found) n blank told
+      → Appends written' written'' (take n told) → Passed read read'' written written'' input image
+  unfolding since_end
+  passed_end {told = told} {n = n} e z o q y =
+      let r = since_end e z s.since p o q in
+      record {
+        ran = r;
+        taken = taken_more;
+        given = Appends-trans written written' written'' s.since.handed (take n told) s.given y;
+        prints = ran_prints r;
+      }
+
+  -- where the input came to its end, or to a bad record
+  pub all_printed : {blank told : List ℕ} {n : ℕ} → h.slot ≡ removed → h.size ≡ 0 → whole b.found ≡ false → Puts (parting b.found) n blank told
+      → Appends written' written'' (take n told) → (wants b.found ≡ true → IsAtEnd read'')
+      → IfSome read (λ (xs : List ℕ). Appends written written'' (printed xs))
+  unfolding since_end passed_end
+  all_printed e z o q y f =
+      let r = passed_end e z o q y in
+      whole_input read read'' written written'' r.ran.came r.ran.handed b.found o r.taken r.given r.prints f

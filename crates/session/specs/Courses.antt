@@ -1,6 +1,8 @@
 -- The course that the loop of `session` takes, by the contracts of `bring`, `turn` and `leave` alone: the bytes that come in and the bytes
 -- that are handed over, until it stops.
 use Rattle.std.specs.Prelude.{ℕ, ◌+◌, ◌≡◌, false, List, ◌++◌, take}
+use Rattle.std.specs.declared.option.Option.{Option}
+use Rattle.std.specs.Io.KnownBytes.{Consumes, Appends}
 use Rattle.slot.specs.Slots.{removed}
 use Rattle.records.specs.declared.Mark.{Mark}
 use Rattle.records.specs.declared.Record.{Record}
@@ -10,7 +12,7 @@ use Rattle.lines.specs.Lines.{Puts}
 use Rattle.input.specs.declared.Brought.{Brought}
 use Rattle.input.specs.Input.{part, Brings}
 use Rattle.printed.specs.declared.Turned.{Turned}
-use Rattle.printed.specs.Printed.{comes_of, whole, parting, Unread}
+use Rattle.printed.specs.Printed.{comes_of, whole, parting, Unread, printed}
 use Rattle.printed.specs.Turns.{Turns}
 
 -- The buffer with the place and the end of its unused bytes, what is held and the lent image; then what comes in and what is handed over.
@@ -37,9 +39,24 @@ pub record Ran (input image : List ℕ) : Type 0 where
   pub handed : List ℕ
   pub course : (unread : List ℕ) → Unread last unread → Course input 0 0 held image (came ++ unread) handed
 
+-- A session ran its course between a reader and a writer: what came was taken from the one, what was handed over was written to the other, where
+-- it is known what they have, and that is `printed` of what came and whatever stands unread behind it.
+pub record Passed (read read' written written' : Option (List ℕ)) (input image : List ℕ) : Type 0 where
+  pub ran : Ran input image
+  pub taken : Consumes read read' ran.came
+  pub given : Appends written written' ran.handed
+  pub prints : (unread : List ℕ) → Unread ran.last unread → ran.handed ≡ printed (ran.came ++ unread)
+
 -- The loop has come from the first state to the second: these bytes came in and those were handed over, and whatever course goes on from
 -- here is one from there. Its invariant.
 pub record Since (input : List ℕ) (h : Held) (image input' : List ℕ) (at end : ℕ) (h' : Held) (image' : List ℕ) : Type 0 where
   pub came : List ℕ
   pub handed : List ℕ
   pub goes : (c d : List ℕ) → Course input' at end h' image' c d → Course input 0 0 h image (came ++ c) (handed ++ d)
+
+-- and these bytes were taken from the reader and written to the writer
+pub record Between (read read' written written' : Option (List ℕ)) (input : List ℕ) (h : Held) (image input' : List ℕ) (at end : ℕ) (h' : Held)
+    (image' : List ℕ) : Type 0 where
+  pub since : Since input h image input' at end h' image'
+  pub taken : Consumes read read' since.came
+  pub given : Appends written written' since.handed

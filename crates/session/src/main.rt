@@ -1,47 +1,60 @@
 // The session program: records come in on standard input, and a line goes out for each as soon as it is done.
 // What it prints is `printed` of its input (crate printed): `bring` says which bytes of the input stand where, `turn` and `leave` put the next
-// part of what is printed into a buffer, and here it is handed to the system. That the system takes and brings these bytes no contract can say.
+// part of what is printed into a buffer, and here it is handed over. That is proved of any reader and writer: the bytes that are taken from the
+// one and written to the other, where these are known. That the system brings and takes these bytes no contract can say.
+#![tactic(auto)]
 
-ghost use Rattle.std.specs.Prelude.{◌≡◌, true, ◌≤◌, length};
+ghost use Rattle.std.specs.Prelude.{◌≡◌, true, false, ◌≤◌, length, take, IfSome};
+ghost use Rattle.std.specs.Io.KnownBytes.{Appends};
 ghost use Rattle.words.specs.Bounds.{longest_record};
-ghost use Rattle.session.specs.Courses.{Ran};
+ghost use Rattle.printed.specs.Printed.{printed};
+ghost use Rattle.session.specs.Courses.{Ran, Passed};
 
-use input::bring;
-use libc::{STDERR_FILENO, STDOUT_FILENO};
+use input::{Source, bring};
 use records::Record;
+use std::io::{Read, Write};
 use words::{LARGEST_HELD, LINE, RECORD, ROOM};
 
 // The most records of a session. Nothing says that the input ends, so the loop counts: at a record each nanosecond, to this number takes
 // more than a hundred years.
 const RECORDS: u64 = 4000000000000000000;
 
-// Hands the front of a buffer to standard output. Where it is not all taken, this is told on standard error, and the session is over.
-fn hand(out: &[u8], n: usize) -> bool
+// Hands the front of a buffer over, at once. Where it is not all taken, this is told, and the session is over; where that is not taken either,
+// nobody is left to be told.
+fn hand<W: Write, E: Write>(output: &mut W, errors: &mut E, out: &[u8], n: usize) -> bool
     requires { n ≤ length out.now }
+    ensures { result ≡ true → Appends (W.contents output.old) (W.contents output.new) (take n out.now) }
 {
-    if io::write_all(STDOUT_FILENO, &out[..n]) {
+    if output.write_all(&out[..n]).is_ok() && output.flush().is_ok() {
         return true;
     }
-    io::write_all(STDERR_FILENO, b"session: the output could not be written\n");
+    let _ = errors.write_all(b"session: the output could not be written\n");
     false
 }
 
 // Record after record; the reading that is not a whole one stops it. True where it ran its course and all of it was taken: not where the output
-// was not taken, nor at the most records.
-fn session(
+// was not taken, nor at the most records. Where no read failed besides, what was written is what the program prints of all that the reader had.
+fn session<R: Read, W: Write, E: Write>(
+    source: &mut Source<R>,
+    output: &mut W,
+    errors: &mut E,
     input: &mut [u8],
     image: &mut [u8; LARGEST_HELD],
     answer: &mut [u8; ROOM],
     out: &mut [u8; LINE],
 ) -> bool
     requires { longest_record ≤ length input.old }
-    ensures { result ≡ true → Ran input.old image.old }
+    ensures ran { result ≡ true → Ran input.old image.old }
+    ensures passed { result ≡ true → Passed (R.remaining source.old.reader) (R.remaining source.new.reader)
+        (W.contents output.old) (W.contents output.new) input.old image.old }
+    ensures prints { result ≡ true → source.new.failed ≡ false → IfSome (R.remaining source.old.reader)
+        (λ xs. Appends (W.contents output.old) (W.contents output.new) (printed xs)) }
 {
     let mut held = sitting::start();
     let mut at = 0;
     let mut end = 0;
     for _ in 0..RECORDS {
-        let brought = bring(input, at, end);
+        let brought = bring(source, input, at, end);
         at = brought.at;
         end = brought.end;
         let found = brought.found;
@@ -52,13 +65,13 @@ fn session(
         } = found
         else {
             let n = printed::leave(found, out);
-            return hand(out, n);
+            return hand(output, errors, out, n);
         };
         let first = at + start;
         let last = at + next;
         let turned = printed::turn(mark, &input[first..last], held, image, answer, out);
         let n = turned.len;
-        if !hand(out, n) {
+        if !hand(output, errors, out, n) {
             return false;
         }
         held = turned.held;
@@ -68,10 +81,24 @@ fn session(
 }
 
 // The input buffer holds the longest whole record.
-fn main() {
+fn main(rt: HostRuntime) {
+    let mut source = Source {
+        reader: rt.stdin(),
+        failed: false,
+    };
+    let mut output = rt.stdout();
+    let mut errors = rt.stderr();
     let mut input = [0u8; RECORD];
     let mut image = [0u8; LARGEST_HELD];
     let mut answer = [0u8; ROOM];
     let mut out = [0u8; LINE];
-    session(&mut input, &mut image, &mut answer, &mut out);
+    session(
+        &mut source,
+        &mut output,
+        &mut errors,
+        &mut input,
+        &mut image,
+        &mut answer,
+        &mut out,
+    );
 }
