@@ -23,7 +23,7 @@ module _ (r : Request) (s : Slot) (m : List ℕ) where
   abbrev from3 : Fault
   from3 = b_slot m isnt 0 ⇒ Fault.OtherSlot ⁏ from4
 
-  -- fault 2 has two tests: dw_length against the message, and against its type
+  -- fault 2 has two tests: dwLength against the message, and against its type
   abbrev from_type : Fault
   from_type = not (data_fits r (dw_length m)) ⇒ Fault.Length ⁏ from3
 

@@ -8,7 +8,7 @@ use Rattle.slot.specs.Slots.{occupied}
 use Rattle.faults.specs.declared.Fault.{Fault}
 use Rattle.faults.specs.declared.Fault.TheVariants.{Clear, Unknown, Length, OtherSlot, Field, Card}
 
--- "Header: type, dw_length (4 bytes, low first), b_slot, b_seq, three more bytes; the pseudo-APDU begins at byte 10 of the message"
+-- "Header: type, dwLength (4 bytes, low first), bSlot, bSeq, three more bytes; the pseudo-APDU begins at byte 10 of the message"
 abbrev pub type_byte : List ℕ → ℕ
 type_byte m = byte m 0
 
@@ -62,7 +62,7 @@ supported ResetParameters = true
 supported Transfer = true
 supported Unsupported = false
 
--- fault 2: dw_length "above 261, or not 0 for 62h, 63h, 65h"; 02: "6Ch and 6Dh need dw_length 0, 61h needs 5 or 7"
+-- fault 2: dwLength "above 261, or not 0 for 62h, 63h, 65h"; 02: "6Ch and 6Dh need dwLength 0, 61h needs 5 or 7"
 abbrev pub data_fits : Request → ℕ → Bool
 data_fits SetParameters n = n is 5 or n is 7
 data_fits PowerOn n = n is 0
@@ -73,7 +73,7 @@ data_fits ResetParameters n = n is 0
 data_fits Transfer n = leb n 261
 data_fits Unsupported n = true
 
--- fault 4: "62h with b_power_select (byte 7) above 3: 07h; 6Fh with wLevelParameter (bytes 8, 9) not 0: 08h"; 61h's, each "their own offset".
+-- fault 4: "62h with bPowerSelect (byte 7) above 3: 07h; 6Fh with wLevelParameter (bytes 8, 9) not 0: 08h"; 61h's, each "their own offset".
 -- Each is told by the offset of the field that is wrong: that offset, or 0 where none is.
 abbrev pub bad_field : Request → List ℕ → ℕ
 bad_field SetParameters m = fault_at (set_of m) (length m - 10)

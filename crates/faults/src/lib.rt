@@ -15,7 +15,7 @@ pub enum Fault {
     // An unsupported type.
     Unknown,
     Length,
-    // b_slot is not 0.
+    // bSlot is not 0.
     OtherSlot,
     // A field of the message, told by its offset.
     Field(u8),
@@ -67,7 +67,7 @@ fn data_fits(message_type: u8, n: usize) -> bool
     }
 }
 
-// Byte 7 where b_power_select is above 3.
+// Byte 7 where bPowerSelect is above 3.
 fn power_field(msg: &[u8]) -> u8
     requires { 10 ≤ length msg.now }
     ensures { result ≡ bad_field PowerOn msg.now }

@@ -20,7 +20,7 @@ answer_type ResetParameters = 0x82
 answer_type Transfer = 0x80
 answer_type Unsupported = 0x81
 
--- "b_error is 00h on success"; a wrong field gives its offset
+-- "bError is 00h on success"; a wrong field gives its offset
 abbrev pub b_error : Fault → ℕ
 b_error Clear = 0x00
 b_error Unknown = 0x00
@@ -29,11 +29,11 @@ b_error OtherSlot = 0x05
 b_error (Field at) = at
 b_error Card = 0xFE
 
--- "card state after the call (0 active, 1 inactive, 2 no card or b_slot not 0)", n being b_slot and s the slot after the call
+-- "card state after the call (0 active, 1 inactive, 2 no card or bSlot not 0)", n being bSlot and s the slot after the call
 unfoldable pub card_state : ℕ → Slot → ℕ
 card_state n s = n isnt 0 or not (occupied s.holds) ⇒ 2 ⁏ s.active ⇒ 0 ⁏ 1
 
--- "b_status is card state after the call .. plus 40h when failed"
+-- "bStatus is card state after the call .. plus 40h when failed"
 unfoldable pub b_status : Fault → ℕ → ℕ
 b_status f state = is_clear f ⇒ state ⁏ state + 0x40
 
@@ -46,7 +46,7 @@ byte9 type f state s =
     ⁏ state is 0 ⇒ 0
     ⁏ 1
 
--- "Answer: type, dw_length, b_slot and b_seq echoed, b_status, b_error, one byte": the ten bytes of a type, a data length, the b_slot and b_seq
+-- "Answer: type, dwLength, bSlot and bSeq echoed, bStatus, bError, one byte": the ten bytes of a type, a data length, the bSlot and bSeq
 -- of the message, a status, an error and a last byte
 unfoldable pub header : ℕ → ℕ → ℕ → ℕ → ℕ → ℕ → ℕ → List ℕ
 header type len slot seq status error last = type ∷ four_bytes len ++ (slot ∷ seq ∷ status ∷ error ∷ last ∷ [])

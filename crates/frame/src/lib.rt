@@ -77,7 +77,7 @@ impl Verdict {
 
 // ---- the header
 
-// b_error.
+// bError.
 fn error_of(fault: Fault) -> u8
     ensures { result ≡ b_error fault }
 {
@@ -91,7 +91,7 @@ fn error_of(fault: Fault) -> u8
     }
 }
 
-// The card state, as b_status gives it, of the slot that b_slot names.
+// The card state, as bStatus gives it, of the slot that bSlot names.
 fn state_of(bslot: u8, slot: Slot) -> u8
     ensures { (result ≡ card_state bslot slot) × (result < 3) }
 {
@@ -107,7 +107,7 @@ fn state_of(bslot: u8, slot: Slot) -> u8
     1
 }
 
-// b_status: the card state, and 40h when failed.
+// bStatus: the card state, and 40h when failed.
 fn status_of(fault: Fault, state: u8) -> u8
     requires { state < 3 }
     ensures { result ≡ b_status fault state }

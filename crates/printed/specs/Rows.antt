@@ -38,7 +38,7 @@ remove = recorded 0x43 0x4F []
 unfoldable pub message : List ℕ → List ℕ
 message m = recorded 0x4F 0x4D m
 
--- an image of kind 1, of one byte value; and messages to slot 0 with b_seq 0
+-- an image of kind 1, of one byte value; and messages to slot 0 with bSeq 0
 unfoldable pub image1 : ℕ → List ℕ
 image1 b = replicate 128 b
 
@@ -99,7 +99,7 @@ rows =
     gives "in 0" ∷ "out 0" ∷ "in 0" ∷ "msg 0 800200000000000000003b00" ∷ "msg 0 800200000000000000009000" ∷ "msg 0 800500000000000000006666669000" ∷ [])
     -- 14. two equal records are two
     ∷ (status ++ status gives "msg 0 81000000000000020001" ∷ "msg 0 81000000000000020001" ∷ [])
-    -- 15. the length's low byte comes first: a message of 256 bytes, whose dw_length is wrong
+    -- 15. the length's low byte comes first: a message of 256 bytes, whose dwLength is wrong
     ∷ (0x4F ∷ 0x4D ∷ 0x00 ∷ 0x01 ∷ 0x65 ∷ replicate 255 0 gives "msg 0 81000000000000420101" ∷ [])
     -- 16. to 18. a cut header; 19. and 20. a cut body
     ∷ (remove ++ (0x43 ∷ []) gives "out 0" ∷ "bad" ∷ [])

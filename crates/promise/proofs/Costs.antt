@@ -88,7 +88,7 @@ module _ (chip : Chip) (c : (facts chip).coded ≡ true) (s : Slot) (image : Lis
       let t = wrong_reached f s image m e in
       reached_event f then.slot then.image m (reached_again t.0) ∙ rest _ _ (reached_code t.0 ∙ t.1)
 
-  -- b_seq is only echoed: the same message sent twice costs two tries, stopping at zero
+  -- bSeq is only echoed: the same message sent twice costs two tries, stopping at zero
   pub equal_codes_cost_two : event_of f s image m ≡ wrong → tries_in f (run s image (m ∷ m ∷ [])).image ≡ tries_in f image - 2
   unfolding run
   equal_codes_cost_two e =

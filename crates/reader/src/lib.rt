@@ -16,7 +16,7 @@ use slot::Slot;
 #[derive(Clone, Copy)]
 pub enum Meant {
     Refused(Refusal),
-    // The slot that b_slot names.
+    // The slot that bSlot names.
     Slot(u8),
 }
 

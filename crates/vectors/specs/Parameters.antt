@@ -4,14 +4,14 @@ use Rattle.words.specs.Bytes.{four_bytes}
 use Rattle.slot.specs.Slots.{removed}
 use Rattle.vectors.specs.Sessions.{Row, on4442}
 
--- a type with no data; 61h with a protocol number and bytes; all to slot 0 with b_seq 0
+-- a type with no data; 61h with a protocol number and bytes; all to slot 0 with bSeq 0
 abbrev pub dataless : ℕ → List ℕ
 dataless type = type ∷ replicate 9 0
 
 unfoldable pub setting : ℕ → List ℕ → List ℕ
 setting protocol d = 0x61 ∷ four_bytes (length d) ++ (0 ∷ 0 ∷ protocol ∷ 0 ∷ 0 ∷ d)
 
--- 82h of an active card with a protocol number and bytes; one that failed, with its b_status and b_error
+-- 82h of an active card with a protocol number and bytes; one that failed, with its bStatus and bError
 unfoldable pub tells82 : ℕ → List ℕ → List ℕ
 tells82 protocol d = 0x82 ∷ four_bytes (length d) ++ (0 ∷ 0 ∷ 0x00 ∷ 0x00 ∷ protocol ∷ d)
 
@@ -63,7 +63,7 @@ parameter_rows =
     ∷ [])
     (fails82 0x40 0x0A ∷ fails82 0x40 0x0A ∷ fails82 0x40 0x0B ∷ fails82 0x40 0x0B ∷ fails82 0x40 0x0D ∷ fails82 0x40 0x0E ∷ fails82 0x40 0x10 ∷ tells82 0 default_bytes ∷ [])
     0x07 false
-    -- 5. dw_length 6, or data behind 6Ch: 01h; b_slot 1: 05h, and the state is that of no card
+    -- 5. dwLength 6, or data behind 6Ch: 01h; bSlot 1: 05h, and the state is that of no card
     ∷ on4442 0x07
     (setting 0 (t0 ++ (0x00 ∷ [])) ∷ (set (dataless 0x6C) 1 0x01 ++ (0x00 ∷ [])) ∷ set (dataless 0x6D) 5 0x01 ∷ [])
     (fails82 0x40 0x01 ∷ fails82 0x40 0x01 ∷ set (fails82 0x42 0x05) 5 0x01 ∷ [])

@@ -67,7 +67,7 @@ image4442 counter = 0xA2 ∷ 0x13 ∷ 0x10 ∷ 0x91 ∷ replicate 252 0 ++ repli
 unfoldable pub image4428 : ℕ → List ℕ
 image4428 counter = replicate 1021 0 ++ (counter ∷ 0x11 ∷ 0x22 ∷ []) ++ replicate 128 0xFF
 
--- a transfer of data to slot 0 with b_seq 0; its answer when it succeeds, and when it fails
+-- a transfer of data to slot 0 with bSeq 0; its answer when it succeeds, and when it fails
 unfoldable pub transfer : List ℕ → List ℕ
 transfer d = 0x6F ∷ four_bytes (length d) ++ (0 ∷ 0 ∷ 0 ∷ 0 ∷ 0 ∷ d)
 
@@ -93,7 +93,7 @@ on4428 c sent got c' o = record { slot = selected_slot Sle4428; image = image442
 -- ---- the table
 unfoldable pub table : List Row
 table =
-    -- 1. 62 with b_seq 0: 80 06 00 00 00 00 00 00 00 00 3B 04 A2 13 10 91
+    -- 1. 62 with bSeq 0: 80 06 00 00 00 00 00 00 00 00 3B 04 A2 13 10 91
     on4442 0x07
     ((0x62 ∷ 0 ∷ 0 ∷ 0 ∷ 0 ∷ 0 ∷ 0 ∷ 0 ∷ 0 ∷ 0 ∷ []) ∷ [])
     ((0x80 ∷ 0x06 ∷ 0 ∷ 0 ∷ 0 ∷ 0 ∷ 0 ∷ 0 ∷ 0 ∷ 0 ∷ 0x3B ∷ 0x04 ∷ 0xA2 ∷ 0x13 ∷ 0x10 ∷ 0x91 ∷ []) ∷ [])
@@ -130,7 +130,7 @@ table =
     (transfer (0xFF ∷ 0xB1 ∷ 0x00 ∷ 0x10 ∷ 0x01 ∷ []) ∷ [])
     (success (0x67 ∷ 0x00 ∷ []) ∷ [])
     0xFF false
-    -- 9. dw_length FFFFFFFFh: b_error 01h
+    -- 9. dwLength FFFFFFFFh: bError 01h
     ∷ on4442 0x07
     ((0x6F ∷ 0xFF ∷ 0xFF ∷ 0xFF ∷ 0xFF ∷ 0 ∷ 0 ∷ 0 ∷ 0 ∷ 0 ∷ []) ∷ [])
     (failure 0x01 ∷ [])

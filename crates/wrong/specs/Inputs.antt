@@ -45,7 +45,7 @@ kept4432 = set image4432 256 0xFD
 abbrev pub mem_i2c : List ℕ
 mem_i2c = replicate 128 0xFF
 
--- ---- messages, to slot 0 with b_seq 0
+-- ---- messages, to slot 0 with bSeq 0
 -- a type with no data
 abbrev pub plain : ℕ → List ℕ
 plain type = type ∷ replicate 9 0

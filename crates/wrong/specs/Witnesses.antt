@@ -30,7 +30,7 @@ use Rattle.wrong.specs.WrongSteps as steps
 abbrev pub from : ℕ → ℕ → List ℕ
 from k n = series (λ (j : ℕ). j) k n
 
--- b_slot 1 to FFh, each taken for slot 0
+-- bSlot 1 to FFh, each taken for slot 0
 abbrev pub slot_rows : List Witness
 slot_rows = map (λ (n : ℕ). on (faults.takes_slot n) removed [] (set (plain 0x65) 5 n)) (from 1 255)
 
@@ -38,7 +38,7 @@ slot_rows = map (λ (n : ℕ). on (faults.takes_slot n) removed [] (set (plain 0
 abbrev pub type_rows : List Witness
 type_rows = map (λ (n : ℕ). on (faults.takes_type n) removed [] (plain n)) (from 0 0x61 ++ from 0x64 1 ++ from 0x66 6 ++ from 0x6E 1 ++ from 0x70 0x90)
 
--- b_power_select 4 to FFh, each taken
+-- bPowerSelect 4 to FFh, each taken
 abbrev pub select_rows : List Witness
 select_rows = map (λ (n : ℕ). on (faults.takes_power n) removed [] (set (plain 0x62) 7 n)) (from 4 252)
 

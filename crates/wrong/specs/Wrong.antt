@@ -56,7 +56,7 @@ one_by_one read s image [] = []
 one_by_one read s image (m ∷ ms) = let o = read s image m.message m.room in o ∷ one_by_one read o.slot o.image ms
 
 -- ---- one part replaced
--- of an outcome: the number, the answer, the slot, the image; byte k of the answer; the answer's data, with its dw_length
+-- of an outcome: the number, the answer, the slot, the image; byte k of the answer; the answer's data, with its dwLength
 abbrev pub numbering : ℕ → Outcome → Outcome
 numbering n o = record { number = n; answer = o.answer; slot = o.slot; image = o.image }
 

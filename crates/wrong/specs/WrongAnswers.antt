@@ -20,34 +20,34 @@ succeeded o = o.number is 0 and not (failed o)
 abbrev pub in81 : Outcome → Bool
 in81 o = byte o.answer 0 is 0x81
 
--- ---- type, dw_length, b_slot, b_seq
+-- ---- type, dwLength, bSlot, bSeq
 -- answers this type with the other answer type
 abbrev pub retypes : ℕ → Reader
 retypes type s image m room = let o = exchange s image m room in type_byte m is type ⇒ marking 0 (0x101 - byte o.answer 0) o ⁏ o
 
--- sends dw_length high byte first
+-- sends dwLength high byte first
 abbrev pub length_high_first : Reader
 length_high_first s image m room =
     let o = exchange s image m room in
     saying (sets o.answer 1 (byte o.answer 4 ∷ byte o.answer 3 ∷ byte o.answer 2 ∷ byte o.answer 1 ∷ [])) o
 
--- counts the header in dw_length
+-- counts the header in dwLength
 abbrev pub length_whole : Reader
 length_whole s image m room = let o = exchange s image m room in saying (sets o.answer 1 (four_bytes (length o.answer))) o
 
--- does not echo b_slot
+-- does not echo bSlot
 abbrev pub drops_slot : Reader
 drops_slot s image m room = marking 5 0 (exchange s image m room)
 
--- does not echo b_seq
+-- does not echo bSeq
 abbrev pub drops_seq : Reader
 drops_seq s image m room = marking 6 0 (exchange s image m room)
 
--- answers with the next b_seq
+-- answers with the next bSeq
 abbrev pub next_seq : Reader
 next_seq s image m room = let o = exchange s image m room in marking 6 ((byte o.answer 6 + 1) % 256) o
 
--- ---- b_status
+-- ---- bStatus
 -- leaves 40h out of a failure
 abbrev pub drops_forty : Reader
 drops_forty s image m room = let o = exchange s image m room in failed o ⇒ marking 7 (byte o.answer 7 - 0x40) o ⁏ o
@@ -70,7 +70,7 @@ absent_inactive s image m room =
     b_slot m is 0 and not (occupied s.holds) ⇒ marking 7 (byte o.answer 7 - 1) o
     ⁏ o
 
--- answers a b_slot that is not 0 with this slot's state
+-- answers a bSlot that is not 0 with this slot's state
 abbrev pub own_state : Reader
 own_state s image m room = let o = exchange s image m room in b_slot m isnt 0 ⇒ marking 7 (0x40 + card_state 0 s) o ⁏ o
 
@@ -78,12 +78,12 @@ own_state s image m room = let o = exchange s image m room in b_slot m isnt 0 �
 abbrev pub refused_fails : Reader
 refused_fails = upon 0x6F λ s image o. byte o.answer (length o.answer - 2) is 0x90 ⇒ o ⁏ marking 7 (0x40 + byte o.answer 7) o
 
--- ---- b_error
--- gives the next b_error in place of this one
+-- ---- bError
+-- gives the next bError in place of this one
 abbrev pub misnames : ℕ → Reader
 misnames e s image m room = let o = exchange s image m room in failed o and byte o.answer 8 is e ⇒ marking 8 (e + 1) o ⁏ o
 
--- gives a success b_error 01h
+-- gives a success bError 01h
 abbrev pub names_success : Reader
 names_success s image m room = let o = exchange s image m room in succeeded o ⇒ marking 8 0x01 o ⁏ o
 

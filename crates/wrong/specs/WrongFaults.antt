@@ -23,19 +23,19 @@ abbrev pub drops_type : ℕ → Reader
 drops_type type s image m room = exchange s image (type_byte m is type ⇒ set m 0 0x00 ⁏ m) room
 
 -- ---- fault 2
--- the message with its own length in dw_length
+-- the message with its own length in dwLength
 abbrev pub mended : List ℕ → List ℕ
 mended m = take 1 m ++ four_bytes (length m - 10) ++ drop 5 m
 
--- takes a dw_length larger than the bytes that came, and does what came
+-- takes a dwLength larger than the bytes that came, and does what came
 abbrev pub believes_larger : Reader
 believes_larger = faulting λ r s m. fault_of r s (ltb (length m - 10) (dw_length m) ⇒ mended m ⁏ m)
 
--- compares the low byte of dw_length alone
+-- compares the low byte of dwLength alone
 abbrev pub low_byte_alone : Reader
 low_byte_alone = faulting λ r s m. fault_of r s (dw_length m % 256 is (length m - 10) % 256 ⇒ mended m ⁏ m)
 
--- reads dw_length high byte first
+-- reads dwLength high byte first
 abbrev pub reads_high_first : Reader
 reads_high_first = faulting λ r s m. fault_of r s (sets m 1 (byte m 4 ∷ byte m 3 ∷ byte m 2 ∷ byte m 1 ∷ []))
 
@@ -52,32 +52,32 @@ abbrev pub passes_data : ℕ → Reader
 passes_data type = faulting λ r s m. fault_of r s (type_byte m is type and dw_length m is (length m - 10) ⇒ mended (take 10 m) ⁏ m)
 
 -- ---- fault 3
--- takes every b_slot for slot 0
+-- takes every bSlot for slot 0
 abbrev pub any_slot : Reader
 any_slot s image m room = marking 5 (b_slot m) (exchange s image (set m 5 0) room)
 
--- takes this b_slot for slot 0
+-- takes this bSlot for slot 0
 abbrev pub takes_slot : ℕ → Reader
 takes_slot n s image m room = b_slot m is n ⇒ marking 5 n (exchange s image (set m 5 0) room) ⁏ exchange s image m room
 
--- reads the b_slot of 62h at offset 2 (the misprint of 002, 003 and 004)
+-- reads the bSlot of 62h at offset 2 (the misprint of 002, 003 and 004)
 abbrev pub slot_at_two : Reader
 slot_at_two s image m room = exchange s image (type_byte m is 0x62 ⇒ set m 5 (byte m 2) ⁏ m) room
 
 -- ---- fault 4
--- takes this b_power_select
+-- takes this bPowerSelect
 abbrev pub takes_power : ℕ → Reader
 takes_power n = faulting λ r s m. fault_of r s (byte m 7 is n ⇒ set m 7 0 ⁏ m)
 
--- takes no b_power_select of this value
+-- takes no bPowerSelect of this value
 abbrev pub refuses_power : ℕ → Reader
 refuses_power n = faulting λ r s m. fault_of r s (byte m 7 is n ⇒ set m 7 4 ⁏ m)
 
--- does not look at b_power_select
+-- does not look at bPowerSelect
 abbrev pub any_power : Reader
 any_power = faulting λ r s m. fault_of r s (set m 7 0)
 
--- looks at byte 7 of this type as if it were b_power_select
+-- looks at byte 7 of this type as if it were bPowerSelect
 abbrev pub power_in : ℕ → Reader
 power_in type = faulting λ r s m. type_byte m is type and is_clear (fault_of r s m) and ltb 3 (byte m 7) ⇒ Fault.Field 7 ⁏ fault_of r s m
 

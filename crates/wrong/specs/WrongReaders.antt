@@ -58,7 +58,7 @@ unfoldable pub remembering : (List ℕ → List ℕ → Bool) → Runner
 remembering alike s image [] = []
 remembering alike s image (m ∷ ms) = let o = sending s image m in o ∷ answers_again alike m.message o ms
 
--- treats a b_seq equal to the last as a resend: answers again and does nothing
+-- treats a bSeq equal to the last as a resend: answers again and does nothing
 abbrev pub resends : Runner
 resends = remembering λ last m. same (take 1 (drop 6 last)) (take 1 (drop 6 m))
 
@@ -66,7 +66,7 @@ resends = remembering λ last m. same (take 1 (drop 6 last)) (take 1 (drop 6 m))
 abbrev pub compares_first : Reader
 compares_first = at_right λ f s image d e. recounts (stands (opened s) (counting f f.full e))
 
--- takes a dw_length smaller than the bytes that came, and drops the rest
+-- takes a dwLength smaller than the bytes that came, and drops the rest
 abbrev pub believes_smaller : Reader
 believes_smaller s image m room = exchange s image (ltb (dw_length m) (length m - 10) ⇒ take (10 + dw_length m) m ⁏ m) room
 
@@ -92,7 +92,7 @@ stays_open = at_wrong λ f s image d e. stands s e
 abbrev pub folds : Runner
 folds = remembering same
 
--- folds two messages that are equal but for b_seq into one
+-- folds two messages that are equal but for bSeq into one
 abbrev pub folds_bodies : Runner
 folds_bodies = remembering λ last m. same (set last 6 0) (set m 6 0)
 

@@ -10,9 +10,9 @@ use Rattle.calls.proofs.serve.Goals as goal
 use Rattle.calls.proofs.serve.Goals.{After-read_record-reading}
 
 -- what the record was read as
-by-reading : (c : After-read_record-reading) (x : Reading) → c.read_record-reading.result ≡ x → let a = c.args in
+by_reading : (c : After-read_record-reading) (x : Reading) → c.read_record-reading.result ≡ x → let a = c.args in
     raw_served (slot_of a.raw.now) a.raw.now a.image.now a.msg.now ≡ raw_served x a.raw.now a.image.now a.msg.now
-by-reading c x e =
+by_reading c x e =
     let a = c.args in
     ap (λ (y : Reading). raw_served y a.raw.now a.image.now a.msg.now) (sym c.read_record-reading.ensures ∙ e)
 
@@ -26,18 +26,18 @@ pub returns-in-Unknown : goal.returns-in-Unknown
 unfolding raw_served
 returns-in-Unknown c =
     let a = c.args in
-    raw_is (by-reading (goal.at.returns-in-Unknown c).After-read_record-reading _ c.in-Unknown.is) (raw_down_lem Refusal.Image a.raw.now a.image.now a.answer.now refl)
+    raw_is (by_reading (goal.at.returns-in-Unknown c).After-read_record-reading _ c.in-Unknown.is) (raw_down_lem Refusal.Image a.raw.now a.image.now a.answer.now refl)
 
 pub returns-in-Broken : goal.returns-in-Broken
 unfolding raw_served
 returns-in-Broken c =
     let a = c.args in
-    raw_is (by-reading (goal.at.returns-in-Broken c).After-read_record-reading _ c.in-Broken.is)
+    raw_is (by_reading (goal.at.returns-in-Broken c).After-read_record-reading _ c.in-Broken.is)
     (raw_down_lem (broken_as c.in-Broken.holds a.image.now) a.raw.now a.image.now a.answer.now (ap Verdict.Refused c.broken.ensures))
 
 pub returns-in-Found : goal.returns-in-Found
 unfolding raw_served
 returns-in-Found c =
     let a = c.args in
-    raw_is (by-reading (goal.at.returns-in-Found c).After-read_record-reading _ c.in-Found.is)
+    raw_is (by_reading (goal.at.returns-in-Found c).After-read_record-reading _ c.in-Found.is)
     (raw_kept a.raw.now c.serve-reply.ensures c.keep_state.ensures.0 c.keep_state.ensures.1)

@@ -19,8 +19,8 @@ use Rattle.card.proofs.is_card.Goals as goal
 use Rattle.card.proofs.is_card.Goals.{Else-facts, Else-facts-image, Else-image-facts, Else-not-facts, Then-not-facts}
 
 -- what each test that is passed shows
-image-sized : (c : Else-image-facts) → let a = c.args in length a.image.now ≡ (facts a.chip).size
-image-sized c = c.if-image-facts.false ∙ ap (λ (f : Facts). f.size) c.facts.ensures
+image_sized : (c : Else-image-facts) → let a = c.args in length a.image.now ≡ (facts a.chip).size
+image_sized c = c.if-image-facts.false ∙ ap (λ (f : Facts). f.size) c.facts.ensures
 
 with_code : (c : Else-not-facts) → (facts c.args.chip).coded ≡ true
 with_code c = sym (ap (λ (f : Facts). f.coded) c.facts-2.ensures) ∙ not-false _ c.if-not-facts.false
@@ -28,9 +28,9 @@ with_code c = sym (ap (λ (f : Facts). f.coded) c.facts-2.ensures) ∙ not-false
 no_code : (c : Then-not-facts) → (facts c.args.chip).coded ≡ false
 no_code c = sym (ap (λ (f : Facts). f.coded) c.facts-2.ensures) ∙ not-true _ c.if-not-facts.true
 
-some-zeros : (c : Else-facts) → let chip = c.args.chip in
+some_zeros : (c : Else-facts) → let chip = c.args.chip in
     (facts chip).zeros ≢ (facts chip).size
-some-zeros c e =
+some_zeros c e =
     let chip = c.args.chip in
     let zeros : c.facts-then-not-facts.result.zeros ≡ (facts chip).zeros =
     ap (λ (f : Facts). f.zeros) c.facts-then-not-facts.ensures in
@@ -57,25 +57,25 @@ returns-then-facts c =
     ap (λ (f : Facts). f.zeros) c.facts-then-not-facts.ensures in
     let size : c.facts-then-not-facts-2.result.size ≡ (facts a.chip).size = ap (λ (f : Facts). f.size) c.facts-then-not-facts-2.ensures in
     let all : (facts a.chip).zeros ≡ (facts a.chip).size = omega (arith, zeros, size, c.if-facts.true) in
-    full_test a.chip a.image.now (no_code (goal.at.returns-then-facts c).Then-not-facts) (image-sized (goal.at.returns-then-facts c).Else-image-facts) all
+    full_test a.chip a.image.now (no_code (goal.at.returns-then-facts c).Then-not-facts) (image_sized (goal.at.returns-then-facts c).Else-image-facts) all
 
 pub four_at-requires : goal.four_at-requires
 four_at-requires c =
     let chip = c.args.chip in
     let zeros : c.facts-then-not-facts-3.result.zeros ≡ (facts chip).zeros = ap (λ (f : Facts). f.zeros) c.facts-then-not-facts-3.ensures in
-    omega (arith, zeros, last_four chip (some-zeros (goal.at.four_at-requires c).Else-facts), image-sized (goal.at.four_at-requires c).Else-image-facts)
+    omega (arith, zeros, last_four chip (some_zeros (goal.at.four_at-requires c).Else-facts), image_sized (goal.at.four_at-requires c).Else-image-facts)
 
 pub returns-then-not-facts : goal.returns-then-not-facts
 returns-then-not-facts c =
     let a = c.args in
     ap (λ (n : ℕ). n is 0) (c.four_at.ensures ∙ ap (λ (f : Facts). four_at a.image.now f.zeros) c.facts-then-not-facts-3.ensures)
-    ∙ four_test a.chip a.image.now (no_code (goal.at.returns-then-not-facts c).Then-not-facts) (image-sized (goal.at.returns-then-not-facts c).Else-image-facts) (some-zeros (goal.at.returns-then-not-facts c).Else-facts)
+    ∙ four_test a.chip a.image.now (no_code (goal.at.returns-then-not-facts c).Then-not-facts) (image_sized (goal.at.returns-then-not-facts c).Else-image-facts) (some_zeros (goal.at.returns-then-not-facts c).Else-facts)
 
 pub bounds-image-at : goal.bounds-image-at
 bounds-image-at c =
     let chip = c.args.chip in
     let at : c.facts-at.result.counter ≡ (facts chip).counter = ap (λ (f : Facts). f.counter) c.facts-at.ensures in
-    omega (arith, at, (coded chip (with_code (goal.at.bounds-image-at c).Else-not-facts)).inside, image-sized (goal.at.bounds-image-at c).Else-image-facts)
+    omega (arith, at, (coded chip (with_code (goal.at.bounds-image-at c).Else-not-facts)).inside, image_sized (goal.at.bounds-image-at c).Else-image-facts)
 
 pub returns-then-facts-image : goal.returns-then-facts-image
 unfolding is_card
@@ -84,7 +84,7 @@ returns-then-facts-image c =
     let at : c.facts-at.result.counter ≡ (facts a.chip).counter =
     ap (λ (f : Facts). f.counter) c.facts-at.ensures in
     let full : c.facts-3.result.full ≡ (facts a.chip).full = ap (λ (f : Facts). f.full) c.facts-3.ensures in
-    and_holds (eq-eqb _ _ (image-sized (goal.at.returns-then-facts-image c).Else-image-facts))
+    and_holds (eq-eqb _ _ (image_sized (goal.at.returns-then-facts-image c).Else-image-facts))
     (and_fails _ (lt-leb (byte a.image.now (facts a.chip).counter) (facts a.chip).full (omega (arith, ap (byte a.image.now) at, full, c.if-facts-image.true))))
 
 pub protected-requires : goal.protected-requires
@@ -92,7 +92,7 @@ protected-requires c =
     let chip = c.args.chip in
     let bits : c.facts-4.result.bits ≡ (facts chip).bits = ap (λ (f : Facts). f.bits) c.facts-4.ensures in
     let covered : c.facts-5.result.covered ≡ (facts chip).covered = ap (λ (f : Facts). f.covered) c.facts-5.ensures in
-    omega (arith, bits, covered, (laid chip).guards, image-sized (goal.at.protected-requires c).Else-image-facts)
+    omega (arith, bits, covered, (laid chip).guards, image_sized (goal.at.protected-requires c).Else-image-facts)
 
 pub returns : goal.returns
 unfolding is_card
@@ -104,6 +104,6 @@ returns c =
     let e6 = c.facts-at.ensures in
     let p : c.protected.result ≡ is_protected f.bits f.covered a.image.now f.counter = cc in
     let x : Bool = not (is_protected f.bits f.covered a.image.now f.counter) in
-    let z = coded_zeros a.chip a.image.now (with_code (goal.at.returns c).Else-not-facts) (image-sized (goal.at.returns c).Else-image-facts) in
-    and_holds (eq-eqb _ _ (image-sized (goal.at.returns c).Else-image-facts))
+    let z = coded_zeros a.chip a.image.now (with_code (goal.at.returns c).Else-not-facts) (image_sized (goal.at.returns c).Else-image-facts) in
+    and_holds (eq-eqb _ _ (image_sized (goal.at.returns c).Else-image-facts))
     (and_holds (le-leb (byte a.image.now f.counter) f.full (within (goal.at.returns c).Else-facts-image)) (ap not p ∙ sym (ap (λ (t : Bool). x and t) z ∙ and_end x)))

@@ -50,10 +50,10 @@ right p =
     let a = p.args in
     sym (p.present-opens.ensures.0 ∙ numbers p (λ x y z w. accepts x y z w a.image.now a.guess.now))
 
-counter-after : (p : After-present-opens) → let a = p.args in
+counter_after : (p : After-present-opens) → let a = p.args in
     byte p.present-opens.new.image p.facts-counter.result.counter
     ≡ byte (after_code (facts a.chip) a.image.now a.guess.now) (facts a.chip).counter
-counter-after p =
+counter_after p =
     ap₂ byte (code_after p) (ap (λ (f : Facts). f.counter) p.facts-counter.ensures)
 
 pub bounds-image-counter : goal.bounds-image-counter
@@ -70,14 +70,14 @@ said : (q : After-put_two-len) → let a = q.args in
     q.put_two-len.new.out ≡ over (0x90 ∷ byte (after_code (facts a.chip) a.image.now a.guess.now) (facts a.chip).counter ∷ []) a.out.now
 said q =
     let a = q.args in
-    q.put_two-len.ensures.1 ∙ over_pair a.out.now 0x90 _ (omega arith) ∙ ap (λ (x : ℕ). over (0x90 ∷ x ∷ []) a.out.now) (counter-after (goal.at.After-put_two-len q).After-present-opens)
+    q.put_two-len.ensures.1 ∙ over_pair a.out.now 0x90 _ (omega arith) ∙ ap (λ (x : ℕ). over (0x90 ∷ x ∷ []) a.out.now) (counter_after (goal.at.After-put_two-len q).After-present-opens)
 
 -- and its tries kept
 counted : (w : After-with_tries-counted) → let a = w.args in
     w.with_tries-counted.result ≡ tries_as (tries_in (facts a.chip) (after_code (facts a.chip) a.image.now a.guess.now)) a.slot
 counted w =
     let a = w.args in
-    w.with_tries-counted.ensures ∙ ap (λ (n : ℕ). tries_as n a.slot) (w.tries_left.ensures ∙ ap tries (counter-after (goal.at.After-with_tries-counted w).After-present-opens))
+    w.with_tries-counted.ensures ∙ ap (λ (n : ℕ). tries_as n a.slot) (w.tries_left.ensures ∙ ap tries (counter_after (goal.at.After-with_tries-counted w).After-present-opens))
 
 -- "Equal: .. open. Not: closed"
 pub returns-then-opens : goal.returns-then-opens

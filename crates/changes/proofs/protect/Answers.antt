@@ -31,9 +31,9 @@ numbers : {A : Type 0} (p : After-protect-more) (g : ℕ → ℕ → A) → let 
     g p.facts.result.bits p.facts-2.result.covered ≡ g f.bits f.covered
 numbers p g = ap₂ g (ap (λ (f : Facts). f.bits) p.facts.ensures) (ap (λ (f : Facts). f.covered) p.facts-2.ensures)
 
-image-after : (p : After-protect-more) → let a = p.args in let f = facts a.chip in
+image_after : (p : After-protect-more) → let a = p.args in let f = facts a.chip in
     p.protect-more.new.image ≡ protect_equal f.bits f.covered a.image.now a.at a.«data».now
-image-after p =
+image_after p =
     let a = p.args in
     p.protect-more.ensures.image ∙ numbers p (λ x y. protect_equal x y a.image.now a.at a.«data».now)
 
@@ -49,7 +49,7 @@ counted p =
       p.protect-more.ensures.more.0,
       numbers p (λ x y. protected_count x y p.protect-more.new.image),
       numbers p (λ x y. protected_count x y a.image.now),
-      ap (count_in f) (image-after p),
+      ap (count_in f) (image_after p),
     )
 
 -- which two bytes hold
@@ -73,6 +73,6 @@ returns c =
     record {
       len = c.put_two-len.ensures.0;
       slot = c.with_protected-next.ensures ∙ ap (λ (n : ℕ). protected_as n a.slot) (counted (goal.at.returns c).After-protect-more);
-      image = image-after (goal.at.returns c).After-protect-more;
+      image = image_after (goal.at.returns c).After-protect-more;
       out = c.put_two-len.ensures.1 ∙ over_pair a.out.now 0x90 0x00 (omega (arith, c.requires.0));
     }

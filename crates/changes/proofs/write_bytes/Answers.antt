@@ -15,8 +15,8 @@ use Rattle.changes.proofs.write_bytes.Goals as goal
 use Rattle.changes.proofs.write_bytes.Goals.{Else-facts-ne0, Then-facts-ne0}
 
 -- ---- a card with pages
-some-pages : (c : Then-facts-ne0) → 0 < (facts c.args.chip).page
-some-pages c = omega (arith, c.if-facts-ne0.true, ap (λ (f : Facts). f.page) c.facts.ensures)
+some_pages : (c : Then-facts-ne0) → 0 < (facts c.args.chip).page
+some_pages c = omega (arith, c.if-facts-ne0.true, ap (λ (f : Facts). f.page) c.facts.ensures)
 
 pub write-requires : goal.write-requires
 write-requires c =
@@ -25,9 +25,9 @@ write-requires c =
     let l = laid chip in (
       omega (arith, l.front),
       omega (arith, c.wide.ensures.0),
-      omega (arith, page, some-pages (goal.at.write-requires c).Then-facts-ne0),
+      omega (arith, page, some_pages (goal.at.write-requires c).Then-facts-ne0),
       record {
-        whole = ap₂ (λ (x y : ℕ). x % y) c.requires.0 page ∙ whole_pages chip (some-pages (goal.at.write-requires c).Then-facts-ne0);
+        whole = ap₂ (λ (x y : ℕ). x % y) c.requires.0 page ∙ whole_pages chip (some_pages (goal.at.write-requires c).Then-facts-ne0);
         page = omega (arith, page, l.paged, l.modest);
         image = omega (arith, l.modest);
       },
@@ -41,12 +41,12 @@ returns-then-facts-ne0 c =
       image = c.write.ensures
           ∙ ap₂ (λ (x y : ℕ). page_write x y a.image.now a.at a.at a.«data».now) c.wide.ensures.0
           (ap (λ (f : Facts). f.page) c.facts-then-facts-ne0.ensures)
-          ∙ taken _ (ap not (ne_eqb f.page 0 (λ e. omega (arith, some-pages (goal.at.returns-then-facts-ne0 c).Then-facts-ne0))));
-      report = or_taken _ (eq-eqb _ 0 (pages_bare a.chip (some-pages (goal.at.returns-then-facts-ne0 c).Then-facts-ne0)));
+          ∙ taken _ (ap not (ne_eqb f.page 0 (λ e. omega (arith, some_pages (goal.at.returns-then-facts-ne0 c).Then-facts-ne0))));
+      report = or_taken _ (eq-eqb _ 0 (pages_bare a.chip (some_pages (goal.at.returns-then-facts-ne0 c).Then-facts-ne0)));
     }
 
-no-pages : (c : Else-facts-ne0) → (facts c.args.chip).page ≡ 0
-no-pages c = sym (ap (λ (f : Facts). f.page) c.facts.ensures) ∙ c.if-facts-ne0.false
+no_pages : (c : Else-facts-ne0) → (facts c.args.chip).page ≡ 0
+no_pages c = sym (ap (λ (f : Facts). f.page) c.facts.ensures) ∙ c.if-facts-ne0.false
 
 pub store_unprotected-requires : goal.store_unprotected-requires
 store_unprotected-requires c =
@@ -64,6 +64,6 @@ returns c =
     let covered = ap (λ (f : Facts). f.covered) c.facts-3.ensures in record {
       image = c.store_unprotected.ensures.stored
           ∙ ap₂ (λ (x y : ℕ). storing x y a.image.now a.at a.«data».now) bits covered
-          ∙ passed _ (ap not (eq-eqb f.page 0 (no-pages (goal.at.returns c).Else-facts-ne0))) refl;
-      report = or_passed (ne_eqb f.covered 0 (λ e. omega (arith, pageless_bits a.chip (no-pages (goal.at.returns c).Else-facts-ne0)))) c.store_unprotected.ensures.report;
+          ∙ passed _ (ap not (eq-eqb f.page 0 (no_pages (goal.at.returns c).Else-facts-ne0))) refl;
+      report = or_passed (ne_eqb f.covered 0 (λ e. omega (arith, pageless_bits a.chip (no_pages (goal.at.returns c).Else-facts-ne0)))) c.store_unprotected.ensures.report;
     }

@@ -10,18 +10,18 @@ use Rattle.codes.proofs.judge.Goals as goal
 use Rattle.codes.proofs.judge.Goals.{After-same_bytes}
 
 -- what the comparison says, in the rule's words
-codes-compared : (c : After-same_bytes) →
+codes_compared : (c : After-same_bytes) →
     let a = c.args in
     c.same_bytes.result ≡ same a.guess.now (code_in a.code (length a.guess.now) a.image.now)
-codes-compared c =
+codes_compared c =
     let a = c.args in
     let e : a.code + length a.guess.now - a.code ≡ length a.guess.now = omega arith in
     c.same_bytes.ensures ∙ ap (λ (n : ℕ). same a.guess.now (take n (drop a.code a.image.now))) e
 
 pub returns-then-same_bytes : goal.returns-then-same_bytes
 unfolding judging
-returns-then-same_bytes c = (sym (sym (codes-compared (goal.at.returns-then-same_bytes c).After-same_bytes) ∙ c.if-same_bytes.true), taken _ (sym (codes-compared (goal.at.returns-then-same_bytes c).After-same_bytes) ∙ c.if-same_bytes.true))
+returns-then-same_bytes c = (sym (sym (codes_compared (goal.at.returns-then-same_bytes c).After-same_bytes) ∙ c.if-same_bytes.true), taken _ (sym (codes_compared (goal.at.returns-then-same_bytes c).After-same_bytes) ∙ c.if-same_bytes.true))
 
 pub returns : goal.returns
 unfolding judging
-returns c = (sym (sym (codes-compared (goal.at.returns c).After-same_bytes) ∙ c.if-same_bytes.false), passed _ (sym (codes-compared (goal.at.returns c).After-same_bytes) ∙ c.if-same_bytes.false) refl)
+returns c = (sym (sym (codes_compared (goal.at.returns c).After-same_bytes) ∙ c.if-same_bytes.false), passed _ (sym (codes_compared (goal.at.returns c).After-same_bytes) ∙ c.if-same_bytes.false) refl)

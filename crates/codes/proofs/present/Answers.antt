@@ -16,8 +16,8 @@ use Rattle.codes.proofs.present.Goals as goal
 use Rattle.codes.proofs.present.Goals.{Else-tries_left-eq0, Then-tries_left-eq0}
 
 -- the counter where no try is left, and where one is
-no-try : (c : Then-tries_left-eq0) → let a = c.args in byte a.image.now a.counter ≡ 0
-no-try c =
+no_try : (c : Then-tries_left-eq0) → let a = c.args in byte a.image.now a.counter ≡ 0
+no_try c =
     let a = c.args in
     tries_zero (byte a.image.now a.counter) (omega (arith, c.slice_known-2-1.given a.counter)) (sym c.tries_left.ensures ∙ c.if-tries_left-eq0.true)
 
@@ -26,7 +26,7 @@ some_left c e = c.if-tries_left-eq0.false (c.tries_left.ensures ∙ ap tries e �
 
 pub returns-then-tries_left-eq0 : goal.returns-then-tries_left-eq0
 unfolding presenting accepts
-returns-then-tries_left-eq0 c = (and_fails _ (ap not (eq-eqb _ 0 (no-try (goal.at.returns-then-tries_left-eq0 c).Then-tries_left-eq0))), taken _ (eq-eqb _ 0 (no-try (goal.at.returns-then-tries_left-eq0 c).Then-tries_left-eq0)))
+returns-then-tries_left-eq0 c = (and_fails _ (ap not (eq-eqb _ 0 (no_try (goal.at.returns-then-tries_left-eq0 c).Then-tries_left-eq0))), taken _ (eq-eqb _ 0 (no_try (goal.at.returns-then-tries_left-eq0 c).Then-tries_left-eq0)))
 
 pub returns : goal.returns
 unfolding presenting accepts

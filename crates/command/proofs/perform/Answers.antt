@@ -12,8 +12,8 @@ use Rattle.orders.proofs.Tells.{does_by}
 use Rattle.command.proofs.perform.Goals as goal
 
 -- the order that was found to be this one fits as it does
-fit-by : (f : Facts) (d : List ℕ) {o o' : Order} → o ≡ o' → Fit f d o → Fit f d o'
-fit-by f d e h = subst (λ (o : Order). Fit f d o) e h
+fit_by : (f : Facts) (d : List ℕ) {o o' : Order} → o ≡ o' → Fit f d o → Fit f d o'
+fit_by f d e h = subst (λ (o : Order). Fit f d o) e h
 
 pub read-requires : goal.read-requires
 read-requires c = (
@@ -22,7 +22,7 @@ read-requires c = (
     arith,
     c.requires.1,
     (laid c.args.chip).front,
-    (fit-by (facts c.args.chip) c.args.«data».now c.in-Read.is c.requires.3).0,
+    (fit_by (facts c.args.chip) c.args.«data».now c.in-Read.is c.requires.3).0,
   ),
   omega (arith, subst Short c.in-Read.is c.requires.4),
 )
@@ -30,7 +30,7 @@ read-requires c = (
 pub read_counter-requires : goal.read_counter-requires
 read_counter-requires c =
     let a = c.args in
-    let fit = fit-by (facts a.chip) a.«data».now c.in-Counter.is c.requires.3 in
+    let fit = fit_by (facts a.chip) a.«data».now c.in-Counter.is c.requires.3 in
     let f = coded a.chip fit.0 in
     (omega arith, omega (arith, c.requires.1, f.inside), omega (arith, fit.1, f.long), omega (arith, fit.1, (laid a.chip).digits))
 
@@ -38,15 +38,15 @@ pub read_bits-requires : goal.read_bits-requires
 read_bits-requires c = (
   omega arith,
   c.requires.1,
-  (fit-by (facts c.args.chip) c.args.«data».now c.in-Bits.is c.requires.3).0,
-  (fit-by (facts c.args.chip) c.args.«data».now c.in-Bits.is c.requires.3).1,
+  (fit_by (facts c.args.chip) c.args.«data».now c.in-Bits.is c.requires.3).0,
+  (fit_by (facts c.args.chip) c.args.«data».now c.in-Bits.is c.requires.3).1,
 )
 
 pub write-requires : goal.write-requires
 write-requires c = (
   omega arith,
   c.requires.1,
-  (fit-by (facts c.args.chip) c.args.«data».now c.in-Write.is c.requires.3).0,
+  (fit_by (facts c.args.chip) c.args.«data».now c.in-Write.is c.requires.3).0,
   c.requires.2,
 )
 
@@ -54,7 +54,7 @@ pub protect-requires : goal.protect-requires
 protect-requires c = (
   omega arith,
   c.requires.1,
-  (fit-by (facts c.args.chip) c.args.«data».now c.in-Protect.is c.requires.3).0,
+  (fit_by (facts c.args.chip) c.args.«data».now c.in-Protect.is c.requires.3).0,
   c.requires.5,
 )
 
@@ -62,15 +62,15 @@ pub present-requires : goal.present-requires
 present-requires c = (
   omega arith,
   c.requires.1,
-  (fit-by (facts c.args.chip) c.args.«data».now c.in-Present.is c.requires.3).0,
-  (fit-by (facts c.args.chip) c.args.«data».now c.in-Present.is c.requires.3).1,
+  (fit_by (facts c.args.chip) c.args.«data».now c.in-Present.is c.requires.3).0,
+  (fit_by (facts c.args.chip) c.args.«data».now c.in-Present.is c.requires.3).1,
 )
 
 pub change-requires : goal.change-requires
 change-requires c = (
   omega arith,
   c.requires.1,
-  (fit-by (facts c.args.chip) c.args.«data».now c.in-Change.is c.requires.3).1,
+  (fit_by (facts c.args.chip) c.args.«data».now c.in-Change.is c.requires.3).1,
 )
 
 pub returns-in-Refuse : goal.returns-in-Refuse

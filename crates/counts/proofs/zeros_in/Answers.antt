@@ -41,13 +41,13 @@ pub four_at-requires : goal.four_at-requires
 four_at-requires c = omega (arith, c.loop-i.invariant.1, c.requires.1)
 
 -- the last four bytes
-few-2 : (c : After-four_at) → ones c.four_at.result ≤ 32
-few-2 c =
+few_2 : (c : After-four_at) → ones c.four_at.result ≤ 32
+few_2 c =
     omega (arith, ap ones c.four_at.ensures, four_few c.args.bytes.now (λ k. omega (arith, c.shared_slice_known-1.given k)) c.loop-i.i)
 
-turn-2 : (c : After-four_at) → let l = c.loop-i in let b = c.args.bytes.now in
+turn_2 : (c : After-four_at) → let l = c.loop-i in let b = c.args.bytes.now in
     zeros_of (drop l.i b) + ones c.four_at.result ≡ 32
-turn-2 c =
+turn_2 c =
     let l = c.loop-i in
     let b = c.args.bytes.now in
     let e : l.i + 4 ≡ length b = omega (arith, l.invariant.1, c.requires.1) in
@@ -60,17 +60,17 @@ turn-2 c =
     )
 
 pub overflow_cast-zeros-then-i-bytes : goal.overflow_cast-zeros-then-i-bytes
-overflow_cast-zeros-then-i-bytes c = omega (arith, few-2 (goal.at.overflow_cast-zeros-then-i-bytes c).After-four_at)
+overflow_cast-zeros-then-i-bytes c = omega (arith, few_2 (goal.at.overflow_cast-zeros-then-i-bytes c).After-four_at)
 
 pub overflow_sub-zeros-then-i-bytes : goal.overflow_sub-zeros-then-i-bytes
-overflow_sub-zeros-then-i-bytes c = few-2 (goal.at.overflow_sub-zeros-then-i-bytes c).After-four_at
+overflow_sub-zeros-then-i-bytes c = few_2 (goal.at.overflow_sub-zeros-then-i-bytes c).After-four_at
 
 pub overflow_add-zeros-then-i-bytes : goal.overflow_add-zeros-then-i-bytes
 overflow_add-zeros-then-i-bytes c =
-    omega (arith, few-2 (goal.at.overflow_add-zeros-then-i-bytes c).After-four_at, turn-2 (goal.at.overflow_add-zeros-then-i-bytes c).After-four_at, c.loop-i.invariant.2, zeros_few c.args.bytes.now, c.requires.0)
+    omega (arith, few_2 (goal.at.overflow_add-zeros-then-i-bytes c).After-four_at, turn_2 (goal.at.overflow_add-zeros-then-i-bytes c).After-four_at, c.loop-i.invariant.2, zeros_few c.args.bytes.now, c.requires.0)
 
 pub returns-then-i-bytes : goal.returns-then-i-bytes
-returns-then-i-bytes c = omega (arith, few-2 (goal.at.returns-then-i-bytes c).After-four_at, turn-2 (goal.at.returns-then-i-bytes c).After-four_at, c.loop-i.invariant.2)
+returns-then-i-bytes c = omega (arith, few_2 (goal.at.returns-then-i-bytes c).After-four_at, turn_2 (goal.at.returns-then-i-bytes c).After-four_at, c.loop-i.invariant.2)
 
 pub returns-else-i-bytes : goal.returns-else-i-bytes
 returns-else-i-bytes c =

@@ -12,15 +12,15 @@ on1 c = free1 (sym c.is_supported.ensures ∙ c.if-not-is_supported.false)
 on2 : (c : Else-n-msg) → let a = c.args in Free2 (request_of a.message_type) a.slot a.msg.now
 on2 c = free2 (on1 (goal.at.Else-n-msg c).Else-not-is_supported) (sym c.four_at-n.ensures ∙ c.if-n-msg.false)
 
-on-type : (c : Else-not-data_fits) → let a = c.args in
+on_type : (c : Else-not-data_fits) → let a = c.args in
     FreeType (request_of a.message_type) a.slot a.msg.now
-on-type c =
+on_type c =
     free_type (on2 (goal.at.Else-not-data_fits c).Else-n-msg) (sym
     (c.data_fits.ensures ∙ ap (data_fits (request_of c.args.message_type)) c.four_at-n.ensures)
     ∙ c.if-not-data_fits.false)
 
 on3 : (c : Else-msg-ne0) → let a = c.args in Free3 (request_of a.message_type) a.slot a.msg.now
-on3 c = free3 (on-type (goal.at.Else-msg-ne0 c).Else-not-data_fits) c.if-msg-ne0.false
+on3 c = free3 (on_type (goal.at.Else-msg-ne0 c).Else-not-data_fits) c.if-msg-ne0.false
 
 on4 : (c : Else-field-ne0) → let a = c.args in
     Free4 (request_of a.message_type) a.slot a.msg.now
@@ -39,7 +39,7 @@ returns-then-not-data_fits c =
     ∙ c.if-not-data_fits.true)
 
 pub returns-then-msg-ne0 : goal.returns-then-msg-ne0
-returns-then-msg-ne0 c = fault3 (on-type (goal.at.returns-then-msg-ne0 c).Else-not-data_fits) c.if-msg-ne0.true
+returns-then-msg-ne0 c = fault3 (on_type (goal.at.returns-then-msg-ne0 c).Else-not-data_fits) c.if-msg-ne0.true
 
 pub returns-then-field-ne0 : goal.returns-then-field-ne0
 returns-then-field-ne0 c =

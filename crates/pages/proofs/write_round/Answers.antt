@@ -22,52 +22,52 @@ loop-i-init c = (
 )
 
 -- the cut starts at the address or before
-cut-before : (c : After-cut_start-start) → c.cut_start-start.result ≤ c.args.at + c.loop-i.i
-cut-before c =
+cut_before : (c : After-cut_start-start) → c.cut_start-start.result ≤ c.args.at + c.loop-i.i
+cut_before c =
     let a = c.args in
     let l = c.loop-i in
     rw c.cut_start-start.ensures (cut_le a.reader l.start (a.at + l.i) (omega arith))
 
 pub landing-to-requires : goal.landing-to-requires
-landing-to-requires c = (omega arith, omega arith, cut-before (goal.at.landing-to-requires c).After-cut_start-start, omega arith)
+landing-to-requires c = (omega arith, omega arith, cut_before (goal.at.landing-to-requires c).After-cut_start-start, omega arith)
 
 -- something is left of the reader page, and of the chip page
-left-reader : (c : After-landing-to)
+left_reader : (c : After-landing-to)
     → (c.args.at + c.loop-i.i) %
     c.args.reader < c.args.reader
-left-reader c =
+left_reader c =
     let at-loop = c.before.before.before in
     let start = at-loop.before.before.before in
     mod-lt (start.args.at + at-loop.loop-i.i) (omega arith)
 
-left-chip : (c : After-landing-to)
+left_chip : (c : After-landing-to)
     → c.landing-to.result % c.args.chip <
     c.args.chip
-left-chip c =
+left_chip c =
     mod-lt c.landing-to.result (omega arith)
 
 pub overflow_sub-reader : goal.overflow_sub-reader
-overflow_sub-reader c = omega (arith, left-reader (goal.at.overflow_sub-reader c).After-landing-to)
+overflow_sub-reader c = omega (arith, left_reader (goal.at.overflow_sub-reader c).After-landing-to)
 
 pub overflow_sub-chip : goal.overflow_sub-chip
-overflow_sub-chip c = omega (arith, left-chip (goal.at.overflow_sub-chip c).After-landing-to)
+overflow_sub-chip c = omega (arith, left_chip (goal.at.overflow_sub-chip c).After-landing-to)
 
 pub overflow_add-end : goal.overflow_add-end
 overflow_add-end c = omega (arith, c.least.ensures)
 
 -- the run goes no further than the reader page, the chip page and the image
-run-reader : (c : After-least)
+run_reader : (c : After-least)
     → (c.args.at + c.loop-i.i) %
     c.args.reader + c.least.result ≤
     c.args.reader
-run-reader c =
-    omega (arith, c.least.ensures, c.least-page.ensures, left-reader (goal.at.After-least c).After-landing-to)
+run_reader c =
+    omega (arith, c.least.ensures, c.least-page.ensures, left_reader (goal.at.After-least c).After-landing-to)
 
-run-chip : (c : After-least)
+run_chip : (c : After-least)
     → c.landing-to.result % c.args.chip + c.least.result ≤
     c.args.chip
-run-chip c =
-    omega (arith, c.least.ensures, c.least-page.ensures, left-chip (goal.at.After-least c).After-landing-to)
+run_chip c =
+    omega (arith, c.least.ensures, c.least-page.ensures, left_chip (goal.at.After-least c).After-landing-to)
 
 run_inside : (c : After-least) → c.landing-to.result + c.least.result ≤ length c.loop-i.image
 run_inside c =
@@ -79,8 +79,8 @@ run_inside c =
     let whole : n % a.chip ≡ 0 = start.requires.3.whole in
     let cut = c.cut_start-start.result in
     let to : c.landing-to.result < n =
-    rw c.landing-to.ensures (lands_inside a.chip cut (a.at + l.i) n (omega arith) (cut-before (goal.at.After-least c).After-cut_start-start) (omega arith) whole) in
-    rw e (page_inside a.chip c.landing-to.result c.least.result n (omega arith) to whole (run-chip (goal.at.After-least c).After-least))
+    rw c.landing-to.ensures (lands_inside a.chip cut (a.at + l.i) n (omega arith) (cut_before (goal.at.After-least c).After-cut_start-start) (omega arith) whole) in
+    rw e (page_inside a.chip c.landing-to.result c.least.result n (omega arith) to whole (run_chip (goal.at.After-least c).After-least))
 
 pub store-requires : goal.store-requires
 store-requires c =
@@ -97,18 +97,18 @@ store-requires c =
     )
 
 -- the lesser of two that are some is some
-some-min : (m n : ℕ) → 0 < m → 0 < n → 0 < min m n
-some-min m n p q = omega arith
+some_min : (m n : ℕ) → 0 < m → 0 < n → 0 < min m n
+some_min m n p q = omega arith
 
 -- a run is one byte at least
-run-some : (c : After-least) → 0 < c.least.result
-run-some c =
+run_some : (c : After-least) → 0 < c.least.result
+run_some c =
     let page : 0 < c.least-page.result =
-    rw c.least-page.ensures (some-min _ _ (omega (arith, left-reader (goal.at.After-least c).After-landing-to)) (omega (arith, left-chip (goal.at.After-least c).After-landing-to))) in
-    rw c.least.ensures (some-min _ _ page (omega arith))
+    rw c.least-page.ensures (some_min _ _ (omega (arith, left_reader (goal.at.After-least c).After-landing-to)) (omega (arith, left_chip (goal.at.After-least c).After-landing-to))) in
+    rw c.least.ensures (some_min _ _ page (omega arith))
 
 pub loop-i-smaller : goal.loop-i-smaller
-loop-i-smaller c = closer _ _ _ (omega arith) (run-some (goal.at.loop-i-smaller c).After-least)
+loop-i-smaller c = closer _ _ _ (omega arith) (run_some (goal.at.loop-i-smaller c).After-least)
 
 pub loop-i-preserved : goal.loop-i-preserved
 loop-i-preserved c =
@@ -126,11 +126,11 @@ loop-i-preserved c =
     c.store.ensures ∙ ap (λ (n : ℕ). sets l.image d.landing-to.result
     (take n (drop l.i a.«data».now))) e in (
       omega (arith, d.least.ensures),
-      omega (arith, cut-before (goal.at.loop-i-preserved c).After-cut_start-start),
+      omega (arith, cut_before (goal.at.loop-i-preserved c).After-cut_start-start),
       ap length stored ∙ length-sets l.image d.landing-to.result (take k (drop l.i a.«data».now)) ∙ l.invariant.2,
       l.invariant.3
           ∙ write_run a.reader a.chip l.image l.start a.at l.i k a.«data».now (omega arith) (omega (arith, d.least.ensures))
-          (run-reader (goal.at.loop-i-preserved c).After-least) (omega (arith, ap (λ (n : ℕ). n % a.chip) to, run-chip (goal.at.loop-i-preserved c).After-least))
+          (run_reader (goal.at.loop-i-preserved c).After-least) (omega (arith, ap (λ (n : ℕ). n % a.chip) to, run_chip (goal.at.loop-i-preserved c).After-least))
           ∙ rw (stored, ← d.cut_start-start.ensures, ← d.landing-to.ensures),
     )
 

@@ -23,27 +23,27 @@ pub put_eight-requires : goal.put_eight-requires
 put_eight-requires c = simp length-set (omega arith)
 
 -- the stores leave the length
-state-long : (p : After-put_eight) → length p.put_eight.new.out ≡ length p.args.raw.now
-state-long p =
+state_long : (p : After-put_eight) → length p.put_eight.new.out ≡ length p.args.raw.now
+state_long p =
     let a = p.args in
     let on = p.flag_of.result in
     let op = p.flag_of-2.result in
     ap length p.put_eight.ensures ∙ length-sets a.raw.now 1 (on ∷ a.slot.selected ∷ a.slot.page ∷ op ∷ low_first 7 a.slot.set)
 
 pub bounds-raw-13 : goal.bounds-raw-13
-bounds-raw-13 c = omega (arith, state-long (goal.at.bounds-raw-13 c).After-put_eight)
+bounds-raw-13 c = omega (arith, state_long (goal.at.bounds-raw-13 c).After-put_eight)
 
 pub bounds-raw-14 : goal.bounds-raw-14
-bounds-raw-14 c = simp length-set (omega (arith, state-long (goal.at.bounds-raw-14 c).After-put_eight))
+bounds-raw-14 c = simp length-set (omega (arith, state_long (goal.at.bounds-raw-14 c).After-put_eight))
 
 pub bounds-raw-15 : goal.bounds-raw-15
-bounds-raw-15 c = simp length-set (omega (arith, state-long (goal.at.bounds-raw-15 c).After-put_eight))
+bounds-raw-15 c = simp length-set (omega (arith, state_long (goal.at.bounds-raw-15 c).After-put_eight))
 
 pub bounds-raw-16 : goal.bounds-raw-16
-bounds-raw-16 c = simp length-set (omega (arith, state-long (goal.at.bounds-raw-16 c).After-put_eight))
+bounds-raw-16 c = simp length-set (omega (arith, state_long (goal.at.bounds-raw-16 c).After-put_eight))
 
 pub shape_of-raw : goal.shape_of-raw
-shape_of-raw c = simp length-set (state-long (goal.at.shape_of-raw c).After-put_eight)
+shape_of-raw c = simp length-set (state_long (goal.at.shape_of-raw c).After-put_eight)
 
 pub returns : goal.returns
 unfolding low_first

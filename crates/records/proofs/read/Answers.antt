@@ -27,11 +27,11 @@ overflow_add-wide c = omega (arith, c.wide.ensures.1, c.wide-2.ensures.1)
 
 -- ---- what stands at the place, behind the first two tests
 -- by its mark
-marked-found : (p : After-mark_of-marked) {r : Record} (marked : Marked) → p.mark_of-marked.result ≡ marked
+marked_found : (p : After-mark_of-marked) {r : Record} (marked : Marked) → p.mark_of-marked.result ≡ marked
     → let a = p.args in r ≡ body_at marked a.input.now a.at
     → r ≡ record_at a.input.now a.at
 unfolding record_at
-marked-found p marked k h =
+marked_found p marked k h =
     let at-wide2 = p.before in
     let at_wide = at-wide2.before.before in
     let at-if2 = at_wide.before.before in
@@ -44,13 +44,13 @@ marked-found p marked k h =
     (passed _ (le-ltb _ 4 at-if2.if-input-at-lt4.false) (h ∙ ap (λ (x : Marked). body_at x a.input.now a.at) marks))
 
 -- its length
-length-is : (p : After-wide-4) → let a = p.args in
+length_is : (p : After-wide-4) → let a = p.args in
     p.wide-3.result + 256 * p.wide-4.result ≡ length_at a.input.now a.at
-length-is p = omega (arith, p.wide-3.ensures.0, p.wide-4.ensures.0)
+length_is p = omega (arith, p.wide-3.ensures.0, p.wide-4.ensures.0)
 
 pub returns-in_default : goal.returns-in_default
 unfolding record_at body_at
-returns-in_default c = marked-found (goal.at.returns-in_default c).After-mark_of-marked _ c.in_default.is refl
+returns-in_default c = marked_found (goal.at.returns-in_default c).After-mark_of-marked _ c.in_default.is refl
 
 pub overflow_mul-len : goal.overflow_mul-len
 overflow_mul-len c = omega (arith, c.wide-4.ensures.1)
@@ -65,8 +65,8 @@ returns-then-most-len c =
     let at-marked = p.before.before.before.before.before in
     let a = at-marked.args in
     let n : ℕ = length_at a.input.now a.at in
-    let long : most at-marked.in-Is.mark < n = omega (arith, length-is (goal.at.returns-then-most-len c).After-wide-4, c.most.ensures, c.if-most-len.true) in
-    marked-found (goal.at.returns-then-most-len c).After-mark_of-marked _ at-marked.in-Is.is (taken _ (lt-ltb _ _ long))
+    let long : most at-marked.in-Is.mark < n = omega (arith, length_is (goal.at.returns-then-most-len c).After-wide-4, c.most.ensures, c.if-most-len.true) in
+    marked_found (goal.at.returns-then-most-len c).After-mark_of-marked _ at-marked.in-Is.is (taken _ (lt-ltb _ _ long))
 
 pub returns-then-input-start : goal.returns-then-input-start
 unfolding record_at body_at
@@ -75,9 +75,9 @@ returns-then-input-start c =
     let at-marked = p.before.before.before.before.before in
     let a = at-marked.args in
     let n : ℕ = length_at a.input.now a.at in
-    let small : n ≤ most at-marked.in-Is.mark = omega (arith, length-is (goal.at.returns-then-input-start c).After-wide-4, c.most.ensures, c.if-most-len.false) in
-    let cut : length a.input.now - (a.at + 4) < n = omega (arith, length-is (goal.at.returns-then-input-start c).After-wide-4, c.if-input-start.true) in
-    marked-found (goal.at.returns-then-input-start c).After-mark_of-marked _ at-marked.in-Is.is (passed _ (le-ltb _ _ small) (taken _ (lt-ltb _ _ cut)))
+    let small : n ≤ most at-marked.in-Is.mark = omega (arith, length_is (goal.at.returns-then-input-start c).After-wide-4, c.most.ensures, c.if-most-len.false) in
+    let cut : length a.input.now - (a.at + 4) < n = omega (arith, length_is (goal.at.returns-then-input-start c).After-wide-4, c.if-input-start.true) in
+    marked_found (goal.at.returns-then-input-start c).After-mark_of-marked _ at-marked.in-Is.is (passed _ (le-ltb _ _ small) (taken _ (lt-ltb _ _ cut)))
 
 pub overflow_add-result : goal.overflow_add-result
 overflow_add-result c = omega (arith, c.wide-3.ensures.1, c.wide-4.ensures.1, c.if-input-start.false)
@@ -89,7 +89,7 @@ returns c =
     let at-marked = p.before.before.before.before.before in
     let a = at-marked.args in
     let n : ℕ = length_at a.input.now a.at in
-    let small : n ≤ most at-marked.in-Is.mark = omega (arith, length-is (goal.at.returns c).After-wide-4, c.most.ensures, c.if-most-len.false) in
-    let whole : n ≤ length a.input.now - (a.at + 4) = omega (arith, length-is (goal.at.returns c).After-wide-4, c.if-input-start.false) in
-    let ends = ap (λ (e : ℕ). Record.Whole at-marked.in-Is.mark (a.at + 4) (a.at + 4 + e)) (length-is (goal.at.returns c).After-wide-4) in
-    marked-found (goal.at.returns c).After-mark_of-marked _ at-marked.in-Is.is (passed _ (le-ltb _ _ small) (passed _ (le-ltb _ _ whole) ends))
+    let small : n ≤ most at-marked.in-Is.mark = omega (arith, length_is (goal.at.returns c).After-wide-4, c.most.ensures, c.if-most-len.false) in
+    let whole : n ≤ length a.input.now - (a.at + 4) = omega (arith, length_is (goal.at.returns c).After-wide-4, c.if-input-start.false) in
+    let ends = ap (λ (e : ℕ). Record.Whole at-marked.in-Is.mark (a.at + 4) (a.at + 4 + e)) (length_is (goal.at.returns c).After-wide-4) in
+    marked_found (goal.at.returns c).After-mark_of-marked _ at-marked.in-Is.is (passed _ (le-ltb _ _ small) (passed _ (le-ltb _ _ whole) ends))

@@ -16,18 +16,18 @@ use Rattle.sound.proofs.page_size.Goals as goal
 answer : ℕ → Bool
 answer p = not (ltb p 8) and bit_and p (p - 1) is 0
 
-page-bytes : (p : ℕ) → p < 256 → answer p ≡ page_size p
+page_bytes : (p : ℕ) → p < 256 → answer p ≡ page_size p
 unfolding answer all_below page_size ◌and◌ ◌or◌
-page-bytes p h = beq_same (answer p) (page_size p) (each_below (λ (k : ℕ). beq (answer k) (page_size k)) 256 refl p h)
+page_bytes p h = beq_same (answer p) (page_size p) (each_below (λ (k : ℕ). beq (answer k) (page_size k)) 256 refl p h)
 
 pub returns-then-page-lt8 : goal.returns-then-page-lt8
 unfolding answer
 returns-then-page-lt8 c =
     let p = c.args.page in
-    and_fails (bit_and p (p - 1) is 0) (ap not (lt-ltb p 8 c.if-page-lt8.true)) ∙ page-bytes p (search rules)
+    and_fails (bit_and p (p - 1) is 0) (ap not (lt-ltb p 8 c.if-page-lt8.true)) ∙ page_bytes p (search rules)
 
 pub returns : goal.returns
 unfolding answer
 returns c =
     let p = c.args.page in
-    and_holds (ap not (le-ltb p 8 c.if-page-lt8.false)) refl ∙ page-bytes p (search rules)
+    and_holds (ap not (le-ltb p 8 c.if-page-lt8.false)) refl ∙ page_bytes p (search rules)

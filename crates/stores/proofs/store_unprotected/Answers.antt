@@ -82,14 +82,14 @@ store-requires-in-loop-k c =
     omega (arith, long, between (goal.at.store-requires-in-loop-k c).In-At)
 
 -- the run was stored, and the image is as long as before
-run-laid : (c : After-store-in-loop-k) → let l = c.loop-k in let a = c.args in
+run_laid : (c : After-store-in-loop-k) → let l = c.loop-k in let a = c.args in
     length c.store-in-loop-k.new.image ≡ length a.image.now
-run-laid c =
+run_laid c =
     let l = c.loop-k in
     ap length c.store-in-loop-k.ensures ∙ simp length-sets l.invariant.1
 
 pub bounds-image-k : goal.bounds-image-k
-bounds-image-k c = omega (arith, run-laid (goal.at.bounds-image-k c).After-store-in-loop-k, between (goal.at.bounds-image-k c).In-At)
+bounds-image-k c = omega (arith, run_laid (goal.at.bounds-image-k c).After-store-in-loop-k, between (goal.at.bounds-image-k c).In-At)
 
 pub bounds-data-end : goal.bounds-data-end
 bounds-data-end c = omega (arith, between (goal.at.bounds-data-end c).In-At)
@@ -117,7 +117,7 @@ loop-k-preserved c =
     ∙ ap (λ (x : List ℕ). byte after k is byte vs end and ends_equal x (a.at + (end + 1)) (drop (end + 1) vs)) (sym l.invariant.2)
     ∙ ap (λ (x : List ℕ). byte x k is byte vs end and left) (sym c.store-in-loop-k.ensures) in (
       omega (arith, between (goal.at.loop-k-preserved c).In-At),
-      run-laid (goal.at.loop-k-preserved c).After-store-in-loop-k,
+      run_laid (goal.at.loop-k-preserved c).After-store-in-loop-k,
       l.invariant.2
           ∙ turn_stored a.bits a.covered l.image a.at l.i k vs (omega arith) (omega arith) (place (goal.at.loop-k-preserved c).In-At)
           ∙ ap (λ (x : List ℕ). storing a.bits a.covered x (a.at + (end + 1)) (drop (end + 1) vs)) (sym c.store-in-loop-k.ensures),
