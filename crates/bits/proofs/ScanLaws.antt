@@ -84,9 +84,8 @@ ones_scanned k b i small h =
       none = λ e. omega (arith, tz_none k x e, bits_turned_lem i b h small);
     }
 
--- ---- the bytes of a protection byte, and of four that are FFh
+-- ---- a byte whose bit is 1 is not protected
 module _ (bits covered : ℕ) (image : List ℕ) where
-  -- a byte whose bit is 1 is not protected
   one_free : (k : ℕ) → bit_of (byte image (bits + k / 8)) (k % 8) ≡ 1 → is_protected bits covered image k ≡ false
   one_free k e = go (ltb k covered) refl
     where
@@ -94,16 +93,27 @@ module _ (bits covered : ℕ) (image : List ℕ) where
       go true h = protected_covered bits covered image k (ltb-true _ _ h) ∙ ap (λ (m : ℕ). m is 0) e
       go false h = protected_beyond bits covered image k (ltb-false _ _ h)
 
-  -- the ones of a protection byte; where there are none the first byte is protected
-  pub ones_free : (k n : ℕ) → k < covered → OnesFrom (byte image (bits + k / 8)) (k % 8) n → FreeFrom bits covered image k n
-  ones_free k n h o =
+-- ---- the bytes of a protection byte
+module _ (bits covered : ℕ) (image : List ℕ) (k n : ℕ) (o : OnesFrom (byte image (bits + k / 8)) (k % 8) n) where
+  -- those whose bits are 1 are not protected
+  pub ones_free : (j : ℕ) → j < n → is_protected bits covered image (k + j) ≡ false
+  ones_free j l =
+      let q : (k + j) / 8 ≡ k / 8 = omega (arith, o.within) in
+      let r : (k + j) % 8 ≡ k % 8 + j = omega (arith, o.within) in
+      one_free bits covered image (k + j) (ap₂ (λ (m i : ℕ). bit_of (byte image (bits + m)) i) q r ∙ o.ones j l)
+
+  -- and where there are none the first byte is
+  pub none_protected : n ≡ 0 → k < covered → is_protected bits covered image k ≡ true
+  none_protected e h = protected_covered bits covered image k h ∙ ap (λ (m : ℕ). m is 0) (o.none e)
+
+-- ---- those of a protection byte, and of four that are FFh, as many as are free
+module _ (bits covered : ℕ) (image : List ℕ) where
+  pub few_free : (k n : ℕ) → k < covered → OnesFrom (byte image (bits + k / 8)) (k % 8) n → FreeFrom bits covered image k n
+  few_free k n h o =
       record {
         few = omega (arith, o.within);
-        free = λ j l.
-            let q : (k + j) / 8 ≡ k / 8 = omega (arith, o.within) in
-            let r : (k + j) % 8 ≡ k % 8 + j = omega (arith, o.within) in
-            one_free (k + j) (ap₂ (λ (m i : ℕ). bit_of (byte image (bits + m)) i) q r ∙ o.ones j l);
-        none = λ e. protected_covered bits covered image k h ∙ ap (λ (m : ℕ). m is 0) (o.none e);
+        free = ones_free bits covered image k n o;
+        none = λ e. none_protected bits covered image k n o e h;
       }
 
   -- the ones of four protection bytes
@@ -113,7 +123,7 @@ module _ (bits covered : ℕ) (image : List ℕ) where
         few = omega arith;
         free = λ j l.
             let q : bits + (k + j) / 8 ≡ bits + k / 8 + ((k + j) / 8 - k / 8) = omega arith in
-            one_free (k + j) (ap (λ (m : ℕ). bit_of m ((k + j) % 8)) (ap (byte image) q ∙ four_full image (bits + k / 8) small e ((k + j) / 8 - k / 8) (omega arith))
+            one_free bits covered image (k + j) (ap (λ (m : ℕ). bit_of m ((k + j) % 8)) (ap (byte image) q ∙ four_full image (bits + k / 8) small e ((k + j) / 8 - k / 8) (omega arith))
             ∙ bit_full ((k + j) % 8) (omega arith));
         none = λ z. absurd (omega arith);
       }

@@ -1,17 +1,16 @@
 -- `free_from` meets its contract: four bytes that make FFFFFFFFh are FFh, and else the ones of the byte count.
 use mathlib.Core.Path.{sym, ◌∙◌}
 use native.Mathlib.Omega.{arith}
-use Rattle.bits.proofs.ScanLaws.{ones_free, four_free}
+use Rattle.bits.proofs.ScanLaws.{few_free, four_free}
 use Rattle.bits.proofs.free_from.Goals as goal
 
 pub returns-then-four_at-eq4294967295 : goal.returns-then-four_at-eq4294967295
 returns-then-four_at-eq4294967295 c =
-    let at-known = c.before.before.before in
-    let a = at-known.args in
+    let a = c.args in
     let full = sym c.four_at.ensures ∙ c.if-four_at-eq4294967295.true in
-    four_free a.bits a.covered a.image.now a.k (λ i. omega (arith, at-known.shared_slice_known-1.given i)) full
+    four_free a.bits a.covered a.image.now a.k (λ i. omega (arith, c.type_inv.image i)) full
 
 pub returns : goal.returns
 returns c =
     let a = c.args in
-    ones_free a.bits a.covered a.image.now a.k c.ones_from.result (omega arith) c.ones_from.ensures
+    few_free a.bits a.covered a.image.now a.k c.ones_from.result (omega arith) c.ones_from.ensures
