@@ -22,7 +22,7 @@ returns-then-shift-eq0 c =
     ∙ ap (λ (m : ℕ). over (take m (drop from a.image.now)) a.out.now) e
     ∙ ap (λ (l : List ℕ). over l a.out.now)
     (packed_whole a.bits a.covered a.image.now a.at a.n at-if1.if-shift-eq0.true (omega arith) (omega arith)
-    (λ k. omega (arith, at-shared-slice-known.shared_slice_known-1.given k)))
+    (λ k. omega (arith, c.type_inv.image k)))
 
 pub loop-j-init : goal.loop-j-init
 unfolding series
@@ -47,7 +47,7 @@ loop-j-preserved c =
       at-put.put_eight.ensures
           ∙ ap₂ (λ (t : List ℕ) (v : ℕ). sets t l.j (low_first 7 v)) l.invariant.2 made
           ∙ packed_eight_more a.bits a.covered a.image.now a.at l.j a.out.now (omega arith)
-          (record { fits = λ i. (at-known.shared_slice_known-1.given i).fits }) (omega arith),
+          (record { fits = λ i. (c.type_inv.image i).fits }) (omega arith),
     )
 
 pub loop-j-2-init : goal.loop-j-2-init

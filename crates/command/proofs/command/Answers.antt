@@ -32,7 +32,7 @@ perform-requires c =
     subst⁻¹ (λ (o : Order). Fit f (body d) o) c.decide-order.ensures (order_fits f a.slot d) in
     let short : Short c.decide-order.result =
     subst⁻¹ Short c.decide-order.ensures
-    (order_short f a.slot d (omega (arith, c.shared_slice_known-1.given 4))) in
+    (order_short f a.slot d (omega (arith, c.type_inv.apdu 4))) in
     (omega arith, c.requires.1, c.requires.2, subst⁻¹ (λ (b : List ℕ). Fit f b c.decide-order.result) (tail_is 5 d) fits, short, c.requires.3)
 
 pub returns : goal.returns
@@ -50,5 +50,5 @@ returns c =
     c.perform.ensures) in
     let short : length (said_by f a.slot a.image.now (body d) o) ≤ 257 =
     said_short a.chip a.slot a.image.now (body d) o c.requires.1 (order_fits f a.slot d)
-    (order_short f a.slot d (omega (arith, c.shared_slice_known-1.given 4))) in
+    (order_short f a.slot d (omega (arith, c.type_inv.apdu 4))) in
     record { does = g; short = omega (arith, g.len, short) }

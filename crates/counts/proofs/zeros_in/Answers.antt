@@ -15,14 +15,14 @@ loop-i-init c = (omega arith, omega arith, omega arith)
 -- eight bytes, and what is behind them
 few : (c : After-eight_at) → ones c.eight_at.result ≤ 64
 few c =
-    omega (arith, ap ones c.eight_at.ensures, eight_few c.args.bytes.now (λ k. omega (arith, c.shared_slice_known-1.given k)) c.loop-i.i)
+    omega (arith, ap ones c.eight_at.ensures, eight_few c.args.bytes.now (λ k. omega (arith, c.type_inv.bytes k)) c.loop-i.i)
 
 turn : (c : After-eight_at) → let l = c.loop-i in let b = c.args.bytes.now in
     zeros_of (drop l.i b) + ones c.eight_at.result ≡ 64 + zeros_of (drop (l.i + 8) b)
 turn c =
     let l = c.loop-i in
     let b = c.args.bytes.now in
-    omega (arith, ap ones c.eight_at.ensures, zeros_eight b (λ k. omega (arith, c.shared_slice_known-1.given k)) l.i (omega arith))
+    omega (arith, ap ones c.eight_at.ensures, zeros_eight b (λ k. omega (arith, c.type_inv.bytes k)) l.i (omega arith))
 
 pub overflow_cast-zeros : goal.overflow_cast-zeros
 overflow_cast-zeros c = omega (arith, few (goal.at.overflow_cast-zeros c).After-eight_at)
@@ -43,7 +43,7 @@ four_at-requires c = omega (arith, c.loop-i.invariant.1, c.requires.1)
 -- the last four bytes
 few_2 : (c : After-four_at) → ones c.four_at.result ≤ 32
 few_2 c =
-    omega (arith, ap ones c.four_at.ensures, four_few c.args.bytes.now (λ k. omega (arith, c.shared_slice_known-1.given k)) c.loop-i.i)
+    omega (arith, ap ones c.four_at.ensures, four_few c.args.bytes.now (λ k. omega (arith, c.type_inv.bytes k)) c.loop-i.i)
 
 turn_2 : (c : After-four_at) → let l = c.loop-i in let b = c.args.bytes.now in
     zeros_of (drop l.i b) + ones c.four_at.result ≡ 32
@@ -54,7 +54,7 @@ turn_2 c =
     omega (
       arith,
       ap ones c.four_at.ensures,
-      zeros_four b (λ k. omega (arith, c.shared_slice_known-1.given k)) l.i (omega arith),
+      zeros_four b (λ k. omega (arith, c.type_inv.bytes k)) l.i (omega arith),
       ap (λ (k : ℕ). zeros_of (drop k b)) e,
       zeros_end b,
     )

@@ -42,16 +42,16 @@ returns-then-not-is_blank c =
     (passed _ (le-ltb 1 _ c.if-chosen-gt1.false) (taken _ (ap not (sym c.is_blank.ensures ∙ c.if-not-is_blank.true)))))))
 
 pub overflow_cast-raw : goal.overflow_cast-raw
-overflow_cast-raw c = omega (arith, c.shared_slice_known-8-1.given 14, c.shared_slice_known-8-1.given 15)
+overflow_cast-raw c = omega (arith, c.type_inv.raw 14, c.type_inv.raw 15)
 
 pub overflow_cast-raw-2 : goal.overflow_cast-raw-2
-overflow_cast-raw-2 c = omega (arith, c.shared_slice_known-9-1.given 14, c.shared_slice_known-9-1.given 15)
+overflow_cast-raw-2 c = omega (arith, c.type_inv.raw 14, c.type_inv.raw 15)
 
 pub overflow_mul-raw : goal.overflow_mul-raw
-overflow_mul-raw c = omega (arith, c.shared_slice_known-9-1.given 14, c.shared_slice_known-9-1.given 15)
+overflow_mul-raw c = omega (arith, c.type_inv.raw 14, c.type_inv.raw 15)
 
 pub overflow_add-raw : goal.overflow_add-raw
-overflow_add-raw c = omega (arith, c.shared_slice_known-9-1.given 14, c.shared_slice_known-9-1.given 15)
+overflow_add-raw c = omega (arith, c.type_inv.raw 14, c.type_inv.raw 15)
 
 pub returns : goal.returns
 unfolding slot_with

@@ -8,7 +8,7 @@ use Rattle.words.proofs.eight_at.Goals as goal
 pub overflow_mul-result : goal.overflow_mul-result
 overflow_mul-result c =
     let a = c.args in
-    record { fits = omega (arith, c.four_at-2.ensures, four_fits a.s.now (a.k + 4) (λ i. (c.shared_slice_known-1.given i).fits)) }
+    record { fits = omega (arith, c.four_at-2.ensures, four_fits a.s.now (a.k + 4) (λ i. (c.type_inv.s i).fits)) }
 
 pub overflow_add-result : goal.overflow_add-result
 overflow_add-result c =
@@ -19,8 +19,8 @@ overflow_add-result c =
             arith,
             c.four_at.ensures,
             c.four_at-2.ensures,
-            four_fits a.s.now a.k (λ i. (c.shared_slice_known-1.given i).fits),
-            four_fits a.s.now (a.k + 4) (λ i. (c.shared_slice_known-1.given i).fits),
+            four_fits a.s.now a.k (λ i. (c.type_inv.s i).fits),
+            four_fits a.s.now (a.k + 4) (λ i. (c.type_inv.s i).fits),
           );
     }
 
