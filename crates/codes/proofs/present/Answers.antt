@@ -31,8 +31,7 @@ returns-then-tries_left-eq0 c = (and_fails _ (ap not (eq-eqb _ 0 (no_try (goal.a
 pub returns : goal.returns
 unfolding presenting accepts
 returns c =
-    let on = c.before.before.before.before.before.before.before.before in
-    let a = on.args in
+    let a = c.args in
     let n : ℕ = length a.guess.now in
     let spent = c.spend_try.ensures in
     let judged = c.judge.ensures in (

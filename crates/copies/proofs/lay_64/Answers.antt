@@ -5,12 +5,9 @@ use Rattle.copies.proofs.lay_64.Goals as goal
 
 pub returns : goal.returns
 returns c =
-    let third = c.before.before.before.before.before.before in
-    let second = third.before.before.before.before in
-    let first = second.before.before.before.before in
-    let a = first.args in
+    let a = c.args in
     let s = a.src.now in
     let d = a.dst.now in
-    let two = block_next a.at 16 16 s d (omega arith) (omega arith) first.lay_16.ensures second.lay_16-2.ensures in
-    let three = block_next a.at 32 16 s d (omega arith) (omega arith) two third.lay_16-3.ensures in
+    let two = block_next a.at 16 16 s d (omega arith) (omega arith) c.lay_16.ensures c.lay_16-2.ensures in
+    let three = block_next a.at 32 16 s d (omega arith) (omega arith) two c.lay_16-3.ensures in
     block_next a.at 48 16 s d (omega arith) (omega arith) three c.lay_16-4.ensures

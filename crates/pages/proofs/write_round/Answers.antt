@@ -36,9 +36,7 @@ left_reader : (c : After-landing-to)
     → (c.args.at + c.loop-i.i) %
     c.args.reader < c.args.reader
 left_reader c =
-    let at-loop = c.before.before.before in
-    let start = at-loop.before.before.before in
-    mod-lt (start.args.at + at-loop.loop-i.i) (omega arith)
+    mod-lt (c.args.at + c.loop-i.i) (omega arith)
 
 left_chip : (c : After-landing-to)
     → c.landing-to.result % c.args.chip <
@@ -71,12 +69,11 @@ run_chip c =
 
 run_inside : (c : After-least) → c.landing-to.result + c.least.result ≤ length c.loop-i.image
 run_inside c =
-    let start = c.before.before.before.before.before.before.before.before in
-    let a = start.args in
+    let a = c.args in
     let l = c.loop-i in
     let n : ℕ = length a.image.now in
     let e : length l.image ≡ n = l.invariant.2 in
-    let whole : n % a.chip ≡ 0 = start.requires.3.whole in
+    let whole : n % a.chip ≡ 0 = c.requires.3.whole in
     let cut = c.cut_start-start.result in
     let to : c.landing-to.result < n =
     rw c.landing-to.ensures (lands_inside a.chip cut (a.at + l.i) n (omega arith) (cut_before (goal.at.After-least c).After-cut_start-start) (omega arith) whole) in
@@ -84,15 +81,13 @@ run_inside c =
 
 pub store-requires : goal.store-requires
 store-requires c =
-    let at-loop = c.before.before.before.before.before.before.before in
-    let start = at-loop.before.before.before in
-    let i : ℕ = at-loop.loop-i.i in
-    let part : List ℕ = drop i start.args.«data».now in
+    let i : ℕ = c.loop-i.i in
+    let part : List ℕ = drop i c.args.«data».now in
     let k : ℕ = i + c.least.result - i in
     omega (
       arith,
       length-take-le k part (omega
-          (arith, length-drop i start.args.«data».now, c.least.ensures)),
+          (arith, length-drop i c.args.«data».now, c.least.ensures)),
       run_inside (goal.at.store-requires c).After-least,
     )
 
@@ -112,26 +107,22 @@ loop-i-smaller c = closer _ _ _ (omega arith) (run_some (goal.at.loop-i-smaller 
 
 pub loop-i-preserved : goal.loop-i-preserved
 loop-i-preserved c =
-    let at_before = c.before.before.before.before in
-    let at-loop = at_before.before.before.before.before.before.before in
-    let start' = at-loop.before.before.before in
-    let a = start'.args in
-    let l = at-loop.loop-i in
-    let d = c.before.before.before.before.before in
-    let k : ℕ = d.least.result in
+    let a = c.args in
+    let l = c.loop-i in
+    let k : ℕ = c.least.result in
     let e : l.i + k - l.i ≡ k = omega arith in
-    let to : d.landing-to.result ≡ lands a.chip (cut_start a.reader l.start (a.at + l.i)) (a.at + l.i) =
-    d.landing-to.ensures ∙ ap (λ (n : ℕ). lands a.chip n (a.at + l.i)) d.cut_start-start.ensures in
-    let stored : c.store.new.image ≡ sets l.image d.landing-to.result (take k (drop l.i a.«data».now)) =
-    c.store.ensures ∙ ap (λ (n : ℕ). sets l.image d.landing-to.result
+    let to : c.landing-to.result ≡ lands a.chip (cut_start a.reader l.start (a.at + l.i)) (a.at + l.i) =
+    c.landing-to.ensures ∙ ap (λ (n : ℕ). lands a.chip n (a.at + l.i)) c.cut_start-start.ensures in
+    let stored : c.store.new.image ≡ sets l.image c.landing-to.result (take k (drop l.i a.«data».now)) =
+    c.store.ensures ∙ ap (λ (n : ℕ). sets l.image c.landing-to.result
     (take n (drop l.i a.«data».now))) e in (
-      omega (arith, d.least.ensures),
+      omega (arith, c.least.ensures),
       omega (arith, cut_before (goal.at.loop-i-preserved c).After-cut_start-start),
-      ap length stored ∙ length-sets l.image d.landing-to.result (take k (drop l.i a.«data».now)) ∙ l.invariant.2,
+      ap length stored ∙ length-sets l.image c.landing-to.result (take k (drop l.i a.«data».now)) ∙ l.invariant.2,
       l.invariant.3
-          ∙ write_run a.reader a.chip l.image l.start a.at l.i k a.«data».now (omega arith) (omega (arith, d.least.ensures))
+          ∙ write_run a.reader a.chip l.image l.start a.at l.i k a.«data».now (omega arith) (omega (arith, c.least.ensures))
           (run_reader (goal.at.loop-i-preserved c).After-least) (omega (arith, ap (λ (n : ℕ). n % a.chip) to, run_chip (goal.at.loop-i-preserved c).After-least))
-          ∙ rw (stored, ← d.cut_start-start.ensures, ← d.landing-to.ensures),
+          ∙ rw (stored, ← c.cut_start-start.ensures, ← c.landing-to.ensures),
     )
 
 pub returns : goal.returns

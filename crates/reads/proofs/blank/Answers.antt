@@ -19,7 +19,6 @@ loop-i-preserved c =
 
 pub returns : goal.returns
 returns c =
-    let start = c.before.before.before in
     let l = c.loop-i in
-    let e : l.i ≡ start.args.n = omega arith in
-    l.invariant.2 ∙ ap (λ (m : ℕ). blanked start.args.at start.args.end start.args.code m start.args.out.now) e
+    let e : l.i ≡ c.args.n = omega arith in
+    l.invariant.2 ∙ ap (λ (m : ℕ). blanked c.args.at c.args.end c.args.code m c.args.out.now) e

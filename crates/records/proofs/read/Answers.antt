@@ -32,16 +32,12 @@ marked_found : (p : After-mark_of-marked) {r : Record} (marked : Marked) → p.m
     → r ≡ record_at a.input.now a.at
 unfolding record_at
 marked_found p marked k h =
-    let at-wide2 = p.before in
-    let at_wide = at-wide2.before.before in
-    let at-if2 = at_wide.before.before in
-    let at-if1 = at-if2.before in
-    let a = at-if1.args in
-    let w : 256 * at_wide.wide.result + at-wide2.wide-2.result ≡ word_at a.input.now a.at =
-    omega (arith, at_wide.wide.ensures.0, at-wide2.wide-2.ensures.0) in
+    let a = p.args in
+    let w : 256 * p.wide.result + p.wide-2.result ≡ word_at a.input.now a.at =
+    omega (arith, p.wide.ensures.0, p.wide-2.ensures.0) in
     let marks : marked ≡ mark_of (word_at a.input.now a.at) = sym k ∙ p.mark_of-marked.ensures ∙ ap mark_of w in
-    passed _ (lt-leb _ _ at-if1.if-input-at.false)
-    (passed _ (le-ltb _ 4 at-if2.if-input-at-lt4.false) (h ∙ ap (λ (x : Marked). body_at x a.input.now a.at) marks))
+    passed _ (lt-leb _ _ p.if-input-at.false)
+    (passed _ (le-ltb _ 4 p.if-input-at-lt4.false) (h ∙ ap (λ (x : Marked). body_at x a.input.now a.at) marks))
 
 -- its length
 length_is : (p : After-wide-4) → let a = p.args in
@@ -61,23 +57,19 @@ overflow_add-len c = omega (arith, c.wide-3.ensures.1, c.wide-4.ensures.1)
 pub returns-then-most-len : goal.returns-then-most-len
 unfolding record_at body_at
 returns-then-most-len c =
-    let p = c.before.before in
-    let at-marked = p.before.before.before.before.before in
-    let a = at-marked.args in
+    let a = c.args in
     let n : ℕ = length_at a.input.now a.at in
-    let long : most at-marked.in-Is.mark < n = omega (arith, length_is (goal.at.returns-then-most-len c).After-wide-4, c.most.ensures, c.if-most-len.true) in
-    marked_found (goal.at.returns-then-most-len c).After-mark_of-marked _ at-marked.in-Is.is (taken _ (lt-ltb _ _ long))
+    let long : most c.in-Is.mark < n = omega (arith, length_is (goal.at.returns-then-most-len c).After-wide-4, c.most.ensures, c.if-most-len.true) in
+    marked_found (goal.at.returns-then-most-len c).After-mark_of-marked _ c.in-Is.is (taken _ (lt-ltb _ _ long))
 
 pub returns-then-input-start : goal.returns-then-input-start
 unfolding record_at body_at
 returns-then-input-start c =
-    let p = c.before.before.before in
-    let at-marked = p.before.before.before.before.before in
-    let a = at-marked.args in
+    let a = c.args in
     let n : ℕ = length_at a.input.now a.at in
-    let small : n ≤ most at-marked.in-Is.mark = omega (arith, length_is (goal.at.returns-then-input-start c).After-wide-4, c.most.ensures, c.if-most-len.false) in
+    let small : n ≤ most c.in-Is.mark = omega (arith, length_is (goal.at.returns-then-input-start c).After-wide-4, c.most.ensures, c.if-most-len.false) in
     let cut : length a.input.now - (a.at + 4) < n = omega (arith, length_is (goal.at.returns-then-input-start c).After-wide-4, c.if-input-start.true) in
-    marked_found (goal.at.returns-then-input-start c).After-mark_of-marked _ at-marked.in-Is.is (passed _ (le-ltb _ _ small) (taken _ (lt-ltb _ _ cut)))
+    marked_found (goal.at.returns-then-input-start c).After-mark_of-marked _ c.in-Is.is (passed _ (le-ltb _ _ small) (taken _ (lt-ltb _ _ cut)))
 
 pub overflow_add-result : goal.overflow_add-result
 overflow_add-result c = omega (arith, c.wide-3.ensures.1, c.wide-4.ensures.1, c.if-input-start.false)
@@ -85,11 +77,9 @@ overflow_add-result c = omega (arith, c.wide-3.ensures.1, c.wide-4.ensures.1, c.
 pub returns : goal.returns
 unfolding record_at body_at
 returns c =
-    let p = c.before.before.before in
-    let at-marked = p.before.before.before.before.before in
-    let a = at-marked.args in
+    let a = c.args in
     let n : ℕ = length_at a.input.now a.at in
-    let small : n ≤ most at-marked.in-Is.mark = omega (arith, length_is (goal.at.returns c).After-wide-4, c.most.ensures, c.if-most-len.false) in
+    let small : n ≤ most c.in-Is.mark = omega (arith, length_is (goal.at.returns c).After-wide-4, c.most.ensures, c.if-most-len.false) in
     let whole : n ≤ length a.input.now - (a.at + 4) = omega (arith, length_is (goal.at.returns c).After-wide-4, c.if-input-start.false) in
-    let ends = ap (λ (e : ℕ). Record.Whole at-marked.in-Is.mark (a.at + 4) (a.at + 4 + e)) (length_is (goal.at.returns c).After-wide-4) in
-    marked_found (goal.at.returns c).After-mark_of-marked _ at-marked.in-Is.is (passed _ (le-ltb _ _ small) (passed _ (le-ltb _ _ whole) ends))
+    let ends = ap (λ (e : ℕ). Record.Whole c.in-Is.mark (a.at + 4) (a.at + 4 + e)) (length_is (goal.at.returns c).After-wide-4) in
+    marked_found (goal.at.returns c).After-mark_of-marked _ c.in-Is.is (passed _ (le-ltb _ _ small) (passed _ (le-ltb _ _ whole) ends))

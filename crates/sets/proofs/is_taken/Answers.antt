@@ -8,5 +8,4 @@ use Rattle.sets.proofs.is_taken.Goals as goal
 pub returns : goal.returns
 unfolding takes
 returns c =
-    let start = c.before.before in
-    ap (λ (x : ℕ). x is 0) (c.fault_at.ensures ∙ ap (fault_at start.args.set) c.length_of.ensures)
+    ap (λ (x : ℕ). x is 0) (c.fault_at.ensures ∙ ap (fault_at c.args.set) c.length_of.ensures)

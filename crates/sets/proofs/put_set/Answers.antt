@@ -18,16 +18,14 @@ pub bounds-out-i : goal.bounds-out-i
 bounds-out-i c =
     let l = c.loop-i in
     let n = c.length_of-n.ensures in
-    let start = c.before.before.before.before.before in
-    omega (arith, l.invariant.0, l.invariant.1, n, length_short start.args.set, start.requires)
+    omega (arith, l.invariant.0, l.invariant.1, n, length_short c.args.set, c.requires)
 
 pub loop-i-preserved : goal.loop-i-preserved
 loop-i-preserved c =
     let l = c.loop-i in
     let a = c.args in
     let n = c.length_of-n.ensures in
-    let start = c.before.before.before.before.before in
-    let h : l.i < length a.out.now = omega (arith, n, length_short a.set, start.requires) in (
+    let h : l.i < length a.out.now = omega (arith, n, length_short a.set, c.requires) in (
       omega arith,
       simp length-set l.invariant.1,
       ap₂ (λ (t : List ℕ) (x : ℕ). set t l.i x) l.invariant.2 (c.byte_of.ensures ∙ ap (byte_of a.set) (add_comm l.i 1))
