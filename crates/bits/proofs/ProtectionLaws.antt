@@ -1,7 +1,7 @@
 -- Laws of protection bits: a bit cleared, the search unrolled once, a run of bytes protected.
 use mathlib.Core.Path.{◌≡◌, refl, sym, ap, ◌∙◌}
 use mathlib.Core.List.{List, [], ◌∷◌}
-use mathlib.Core.Bool.{Bool, true, false, true≢false}
+use mathlib.Core.Bool.{Bool, true, false}
 use mathlib.Core.Logic.{◌⊎◌, inl, inr, ◌≢◌}
 use Prim.Native.Nat.{ℕ, zero, suc, ◌+◌, ◌-◌, ◌*◌, ◌/◌, ◌%◌, ◌^◌, ◌≤◌, ◌<◌, min}
 use native.Mathlib.Nat.{div-mul-le_self, mul-le-mul_right, le_trans, add-zero}
@@ -39,14 +39,6 @@ module _ (bits covered : ℕ) where
   pub protected_beyond : (image : List ℕ) (k : ℕ) → covered ≤ k → is_protected bits covered image k ≡ false
   unfolding is_protected
   protected_beyond image k h = ap (λ (n : ℕ). n is 0) (bit_beyond image k h)
-
-  -- so one that is protected has a bit
-  pub protected_within : (image : List ℕ) (k : ℕ) → is_protected bits covered image k ≡ true → k < covered
-  protected_within image k e = go (ltb k covered) refl
-    where
-      go : (b : Bool) → ltb k covered ≡ b → k < covered
-      go true h = ltb-true k covered h
-      go false h = absurd (true≢false (sym e ∙ protected_beyond image k (ltb-false k covered h)))
 
   -- ---- the search
   module _ (image : List ℕ) (k to : ℕ) where

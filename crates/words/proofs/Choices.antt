@@ -1,5 +1,5 @@
 -- Laws of choices: what holds of a chain, two chains alike, and a return that meets one.
-use mathlib.Core.Path.{◌≡◌, refl, sym, ap, ◌∙◌, subst⁻¹}
+use mathlib.Core.Path.{◌≡◌, refl, subst⁻¹}
 use mathlib.Core.Bool.{Bool, true, false, beq, true≢false, false≢true}
 use mathlib.Core.Logic.{◌⊎◌, inl, inr}
 use Rattle.words.specs.Choice.{◌⇒◌⁏◌, ◌and◌, ◌or◌, ◌means◌}
@@ -119,19 +119,10 @@ unfolding ◌or◌
 or_end true = refl
 or_end false = refl
 
-pub and_assoc : (a b c : Bool) → (a and b) and c ≡ (a and b and c)
-unfolding ◌and◌
-and_assoc true b c = refl
-and_assoc false b c = refl
-
 pub or_assoc : (a b c : Bool) → (a or b) or c ≡ (a or b or c)
 unfolding ◌or◌
 or_assoc true b c = refl
 or_assoc false b c = refl
-
--- tests seen so far, and one more of those that are left
-pub and_more : {r c x : Bool} (a b y : Bool) → r ≡ (a and x) → x ≡ (b and y) → c ≡ (a and b) → r ≡ (c and y)
-and_more a b y p q s = p ∙ ap (λ (t : Bool). a and t) q ∙ sym (and_assoc a b y) ∙ ap (λ (t : Bool). t and y) (sym s)
 
 -- a second test that fails
 pub and_last : (a : Bool) {b : Bool} → b ≡ false → a and b ≡ false

@@ -67,9 +67,10 @@ four_at-requires c =
 
 pub returns-then-not-facts : goal.returns-then-not-facts
 returns-then-not-facts c =
+    let on = goal.at.returns-then-not-facts c in
     let a = c.args in
     ap (λ (n : ℕ). n is 0) (c.four_at.ensures ∙ ap (λ (f : Facts). four_at a.image.now f.zeros) c.facts-then-not-facts-3.ensures)
-    ∙ four_test a.chip a.image.now (no_code (goal.at.returns-then-not-facts c).Then-not-facts) (image_sized (goal.at.returns-then-not-facts c).Else-image-facts) (some_zeros (goal.at.returns-then-not-facts c).Else-facts)
+    ∙ four_test a.chip a.image.now (no_code on.Then-not-facts) (image_sized on.Else-image-facts) (some_zeros on.Else-facts)
 
 pub bounds-image-at : goal.bounds-image-at
 bounds-image-at c =
@@ -97,6 +98,7 @@ protected-requires c =
 pub returns : goal.returns
 unfolding is_card
 returns c =
+    let on = goal.at.returns c in
     let a = c.args in
     let f = facts a.chip in
     let e8 = c.facts-4.ensures in
@@ -104,6 +106,6 @@ returns c =
     let e6 = c.facts-at.ensures in
     let p : c.protected.result ≡ is_protected f.bits f.covered a.image.now f.counter = cc in
     let x : Bool = not (is_protected f.bits f.covered a.image.now f.counter) in
-    let z = coded_zeros a.chip a.image.now (with_code (goal.at.returns c).Else-not-facts) (image_sized (goal.at.returns c).Else-image-facts) in
-    and_holds (eq-eqb _ _ (image_sized (goal.at.returns c).Else-image-facts))
-    (and_holds (le-leb (byte a.image.now f.counter) f.full (within (goal.at.returns c).Else-facts-image)) (ap not p ∙ sym (ap (λ (t : Bool). x and t) z ∙ and_end x)))
+    let z = coded_zeros a.chip a.image.now (with_code on.Else-not-facts) (image_sized on.Else-image-facts) in
+    and_holds (eq-eqb _ _ (image_sized on.Else-image-facts))
+    (and_holds (le-leb (byte a.image.now f.counter) f.full (within on.Else-facts-image)) (ap not p ∙ sym (ap (λ (t : Bool). x and t) z ∙ and_end x)))

@@ -70,7 +70,8 @@ said : (q : After-put_two-len) → let a = q.args in
     q.put_two-len.new.out ≡ over (0x90 ∷ byte (after_code (facts a.chip) a.image.now a.guess.now) (facts a.chip).counter ∷ []) a.out.now
 said q =
     let a = q.args in
-    q.put_two-len.ensures.1 ∙ over_pair a.out.now 0x90 _ (omega arith) ∙ ap (λ (x : ℕ). over (0x90 ∷ x ∷ []) a.out.now) (counter_after (goal.at.After-put_two-len q).After-present-opens)
+    q.put_two-len.ensures.1 ∙ over_pair a.out.now 0x90 _ (omega arith) ∙ ap (λ (x : ℕ). over (0x90 ∷ x ∷ []) a.out.now)
+    (counter_after (goal.at.After-put_two-len q).After-present-opens)
 
 -- and its tries kept
 counted : (w : After-with_tries-counted) → let a = w.args in
@@ -83,19 +84,21 @@ counted w =
 pub returns-then-opens : goal.returns-then-opens
 unfolding performed said_by image_by slot_by
 returns-then-opens c =
+    let on = goal.at.returns-then-opens c in
     record {
       len = c.put_two-len.ensures.0;
-      slot = c.open-next.ensures ∙ ap opened (counted (goal.at.returns-then-opens c).After-with_tries-counted) ∙ taken _ (right (goal.at.returns-then-opens c).After-present-opens ∙ c.if-opens.true);
-      image = code_after (goal.at.returns-then-opens c).After-present-opens;
-      out = said (goal.at.returns-then-opens c).After-put_two-len;
+      slot = c.open-next.ensures ∙ ap opened (counted on.After-with_tries-counted) ∙ taken _ (right on.After-present-opens ∙ c.if-opens.true);
+      image = code_after on.After-present-opens;
+      out = said on.After-put_two-len;
     }
 
 pub returns : goal.returns
 unfolding performed said_by image_by slot_by
 returns c =
+    let on = goal.at.returns c in
     record {
       len = c.put_two-len.ensures.0;
-      slot = c.close-next.ensures ∙ ap closed (counted (goal.at.returns c).After-with_tries-counted) ∙ passed _ (right (goal.at.returns c).After-present-opens ∙ c.if-opens.false) refl;
-      image = code_after (goal.at.returns c).After-present-opens;
-      out = said (goal.at.returns c).After-put_two-len;
+      slot = c.close-next.ensures ∙ ap closed (counted on.After-with_tries-counted) ∙ passed _ (right on.After-present-opens ∙ c.if-opens.false) refl;
+      image = code_after on.After-present-opens;
+      out = said on.After-put_two-len;
     }

@@ -30,7 +30,8 @@ pub returns-then-write_bytes : goal.returns-then-write_bytes
 unfolding performed said_by image_by slot_by written_word
 returns-then-write_bytes c =
     let a = c.args in
-    let said : done ≡ word (goal.at.returns-then-write_bytes c).After-write_bytes = taken _ (report (goal.at.returns-then-write_bytes c).After-write_bytes ∙ c.if-write_bytes.true) in
+    let said : done ≡ word (goal.at.returns-then-write_bytes c).After-write_bytes = taken _
+    (report (goal.at.returns-then-write_bytes c).After-write_bytes ∙ c.if-write_bytes.true) in
     record {
       len = c.put_two-len.ensures.0 ∙ ap length said;
       slot = refl;

@@ -20,8 +20,12 @@ codes_compared c =
 
 pub returns-then-same_bytes : goal.returns-then-same_bytes
 unfolding judging
-returns-then-same_bytes c = (sym (sym (codes_compared (goal.at.returns-then-same_bytes c).After-same_bytes) ∙ c.if-same_bytes.true), taken _ (sym (codes_compared (goal.at.returns-then-same_bytes c).After-same_bytes) ∙ c.if-same_bytes.true))
+returns-then-same_bytes c =
+    let on = goal.at.returns-then-same_bytes c in
+    (sym (sym (codes_compared on.After-same_bytes) ∙ c.if-same_bytes.true), taken _ (sym (codes_compared on.After-same_bytes) ∙ c.if-same_bytes.true))
 
 pub returns : goal.returns
 unfolding judging
-returns c = (sym (sym (codes_compared (goal.at.returns c).After-same_bytes) ∙ c.if-same_bytes.false), passed _ (sym (codes_compared (goal.at.returns c).After-same_bytes) ∙ c.if-same_bytes.false) refl)
+returns c =
+    let on = goal.at.returns c in
+    (sym (sym (codes_compared on.After-same_bytes) ∙ c.if-same_bytes.false), passed _ (sym (codes_compared on.After-same_bytes) ∙ c.if-same_bytes.false) refl)

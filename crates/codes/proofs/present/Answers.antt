@@ -26,15 +26,18 @@ some_left c e = c.if-tries_left-eq0.false (c.tries_left.ensures ∙ ap tries e �
 
 pub returns-then-tries_left-eq0 : goal.returns-then-tries_left-eq0
 unfolding presenting accepts
-returns-then-tries_left-eq0 c = (and_fails _ (ap not (eq-eqb _ 0 (no_try (goal.at.returns-then-tries_left-eq0 c).Then-tries_left-eq0))), taken _ (eq-eqb _ 0 (no_try (goal.at.returns-then-tries_left-eq0 c).Then-tries_left-eq0)))
+returns-then-tries_left-eq0 c =
+    let on = goal.at.returns-then-tries_left-eq0 c in
+    (and_fails _ (ap not (eq-eqb _ 0 (no_try on.Then-tries_left-eq0))), taken _ (eq-eqb _ 0 (no_try on.Then-tries_left-eq0)))
 
 pub returns : goal.returns
 unfolding presenting accepts
 returns c =
+    let on = goal.at.returns c in
     let a = c.args in
     let n : ℕ = length a.guess.now in
     let spent = c.spend_try.ensures in
     let judged = c.judge.ensures in (
-      and_holds (ap not (ne_eqb _ 0 (some_left (goal.at.returns c).Else-tries_left-eq0))) (judged.0 ∙ ap (λ (im : List ℕ). same a.guess.now (code_in a.code n im)) spent),
-      passed _ (ne_eqb _ 0 (some_left (goal.at.returns c).Else-tries_left-eq0)) (judged.1 ∙ ap (λ (im : List ℕ). judging a.counter a.full a.code n im a.guess.now) spent),
+      and_holds (ap not (ne_eqb _ 0 (some_left on.Else-tries_left-eq0))) (judged.0 ∙ ap (λ (im : List ℕ). same a.guess.now (code_in a.code n im)) spent),
+      passed _ (ne_eqb _ 0 (some_left on.Else-tries_left-eq0)) (judged.1 ∙ ap (λ (im : List ℕ). judging a.counter a.full a.code n im a.guess.now) spent),
     )

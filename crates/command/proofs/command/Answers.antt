@@ -21,7 +21,11 @@ pub returns-then-apdu-lt5 : goal.returns-then-apdu-lt5
 unfolding commanded order performed said_by
 returns-then-apdu-lt5 c =
     let a = c.args in
-    let g = c.refuse.ensures (facts a.chip) a.image.now (body a.apdu.now) in record { does = does_by (facts a.chip) a.slot a.image.now (body a.apdu.now) (first _ _ (lt-ltb (length a.apdu.now) 5 c.if-apdu-lt5.true)) g; short = omega (arith, g.len) }
+    let g = c.refuse.ensures (facts a.chip) a.image.now (body a.apdu.now) in record {
+      does = does_by (facts a.chip) a.slot a.image.now (body a.apdu.now)
+          (first _ _ (lt-ltb (length a.apdu.now) 5 c.if-apdu-lt5.true)) g;
+      short = omega (arith, g.len);
+    }
 
 pub perform-requires : goal.perform-requires
 perform-requires c =

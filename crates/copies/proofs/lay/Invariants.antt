@@ -13,7 +13,8 @@ decreases-loop-i l = length l.src - l.i
 
 abbrev pub invariant-loop-i-2 : goal.invariant-loop-i-2
 invariant-loop-i-2 l =
-    (l.i ≤ length l.src) × (length l.dst ≡ length l.initial.dst) × ((d : List ℕ) → length l.src ≤ length d → l.initial.dst ≡ take l.initial.i l.src ++ drop l.initial.i d → l.dst ≡ take l.i l.src ++ drop l.i d)
+    (l.i ≤ length l.src) × (length l.dst ≡ length l.initial.dst) × ((d : List ℕ) → length l.src ≤ length d → l.initial.dst ≡ take l.initial.i l.src ++ drop l.initial.i
+    d → l.dst ≡ take l.i l.src ++ drop l.i d)
 
 abbrev pub decreases-loop-i-2 : goal.decreases-loop-i-2
 decreases-loop-i-2 l = length l.src - l.i

@@ -30,11 +30,24 @@ covered_of : (c : After-struct_known-2-1) → c.facts-2.result.covered ≡ (fact
 covered_of c = ap (λ (f : Facts). f.covered) c.facts-2.ensures
 
 pub overflow_add-to : goal.overflow_add-to
-overflow_add-to c = let l = laid c.args.chip in omega (arith, bits_of (goal.at.overflow_add-to c).After-struct_known-2-1, covered_of (goal.at.overflow_add-to c).After-struct_known-2-1, l.guards, l.modest)
+overflow_add-to c = let l = laid c.args.chip in omega (
+  arith,
+  bits_of (goal.at.overflow_add-to c).After-struct_known-2-1,
+  covered_of
+      (goal.at.overflow_add-to c).After-struct_known-2-1,
+  l.guards,
+  l.modest,
+)
 
 pub slice_bounds-zeros_in-end : goal.slice_bounds-zeros_in-end
 slice_bounds-zeros_in-end c =
-    omega (arith, bits_of (goal.at.slice_bounds-zeros_in-end c).After-struct_known-2-1, covered_of (goal.at.slice_bounds-zeros_in-end c).After-struct_known-2-1, c.requires, (laid c.args.chip).guards)
+    omega (
+      arith,
+      bits_of (goal.at.slice_bounds-zeros_in-end c).After-struct_known-2-1,
+      covered_of (goal.at.slice_bounds-zeros_in-end c).After-struct_known-2-1,
+      c.requires,
+      (laid c.args.chip).guards,
+    )
 
 -- the part that is lent is the protection bytes
 part_of : (c : After-struct_known-2-1) → let a = c.args in
@@ -53,7 +66,8 @@ zeros_in-requires c =
     let f = facts c.args.chip in
     let l = laid c.args.chip in
     let im = c.args.image.now in
-    let long = ap length (part_of (goal.at.zeros_in-requires c).After-struct_known-2-1) ∙ length-take-le (f.covered / 8) (drop f.bits im) (omega (arith, c.requires, l.guards, length-drop f.bits im)) in
+    let long = ap length (part_of (goal.at.zeros_in-requires c).After-struct_known-2-1) ∙ length-take-le (f.covered / 8) (drop f.bits im)
+    (omega (arith, c.requires, l.guards, length-drop f.bits im)) in
     (omega (arith, long, l.few), omega (arith, long, l.words))
 
 counted : (c : After-zeros_in) → let a = c.args in

@@ -32,10 +32,27 @@ overflow_sub-zeros c = few (goal.at.overflow_sub-zeros c).After-eight_at
 
 pub overflow_add-zeros : goal.overflow_add-zeros
 overflow_add-zeros c =
-    omega (arith, few (goal.at.overflow_add-zeros c).After-eight_at, turn (goal.at.overflow_add-zeros c).After-eight_at, c.loop-i.invariant.2, zeros_few c.args.bytes.now, c.requires.0)
+    omega (
+      arith,
+      few (goal.at.overflow_add-zeros c).After-eight_at,
+      turn (goal.at.overflow_add-zeros c).After-eight_at,
+      c.loop-i.invariant.2,
+      zeros_few c.args.bytes.now,
+      c.requires.0,
+    )
 
 pub loop-i-preserved : goal.loop-i-preserved
-loop-i-preserved c = (omega arith, omega (arith, c.loop-i.invariant.1), omega (arith, few (goal.at.loop-i-preserved c).After-eight_at, turn (goal.at.loop-i-preserved c).After-eight_at, c.loop-i.invariant.2))
+loop-i-preserved c = (
+  omega arith,
+  omega (arith, c.loop-i.invariant.1),
+  omega (
+    arith,
+    few (goal.at.loop-i-preserved c).After-eight_at,
+    turn
+        (goal.at.loop-i-preserved c).After-eight_at,
+    c.loop-i.invariant.2,
+  ),
+)
 
 pub four_at-requires : goal.four_at-requires
 four_at-requires c = omega (arith, c.loop-i.invariant.1, c.requires.1)
@@ -67,7 +84,14 @@ overflow_sub-zeros-then-i-bytes c = few_2 (goal.at.overflow_sub-zeros-then-i-byt
 
 pub overflow_add-zeros-then-i-bytes : goal.overflow_add-zeros-then-i-bytes
 overflow_add-zeros-then-i-bytes c =
-    omega (arith, few_2 (goal.at.overflow_add-zeros-then-i-bytes c).After-four_at, turn_2 (goal.at.overflow_add-zeros-then-i-bytes c).After-four_at, c.loop-i.invariant.2, zeros_few c.args.bytes.now, c.requires.0)
+    omega (
+      arith,
+      few_2 (goal.at.overflow_add-zeros-then-i-bytes c).After-four_at,
+      turn_2 (goal.at.overflow_add-zeros-then-i-bytes c).After-four_at,
+      c.loop-i.invariant.2,
+      zeros_few c.args.bytes.now,
+      c.requires.0,
+    )
 
 pub returns-then-i-bytes : goal.returns-then-i-bytes
 returns-then-i-bytes c = omega (arith, few_2 (goal.at.returns-then-i-bytes c).After-four_at, turn_2 (goal.at.returns-then-i-bytes c).After-four_at, c.loop-i.invariant.2)

@@ -36,4 +36,7 @@ unfolding request_of ◌⇒◌⁏◌
 returns-in-111 c = gives_request _ _ _ (ap request_of c.in-111.is) c.transfer.ensures
 
 pub returns-in-0-to-96 : goal.returns-in-0-to-96
-returns-in-0-to-96 c = gives_request _ _ _ (elim c.in-0-to-96-1.branch [ in-100-1 w ↦ lone_type w.in-100-1.keys8 | in_default-1 w ↦ other_type_lem _ w.in_default-1.rest ]) (c.unsupported.ensures _)
+returns-in-0-to-96 c = gives_request _ _ _ (elim c.in-0-to-96-1.branch [
+  | in-100-1 w ↦ lone_type w.in-100-1.keys8
+  | in_default-1 w ↦ other_type_lem _ w.in_default-1.rest
+]) (c.unsupported.ensures _)

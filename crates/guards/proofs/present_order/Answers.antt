@@ -30,7 +30,8 @@ pub returns-then-n-p : goal.returns-then-n-p
 returns-then-n-p c v = stop6 (on5 (goal.at.returns-then-n-p c).Else-not-facts) c.if-n-p.true v
 
 pub returns-then-p-facts : goal.returns-then-p-facts
-returns-then-p-facts c v = stop_p3 (on6 (goal.at.returns-then-p-facts c).Else-n-p) (ne_eqb _ _ (λ e. c.if-p-facts.true (e ∙ sym (ap (λ (f : Facts). f.digits) c.facts-2.ensures)))) v
+returns-then-p-facts c v = stop_p3 (on6 (goal.at.returns-then-p-facts c).Else-n-p) (ne_eqb _ _
+    (λ e. c.if-p-facts.true (e ∙ sym (ap (λ (f : Facts). f.digits) c.facts-2.ensures)))) v
 
 pub returns-in_default : goal.returns-in_default
 returns-in_default c v = stop7 (on_p3 (goal.at.returns-in_default c).Else-p-facts) c.in_default.is v

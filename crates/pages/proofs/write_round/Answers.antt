@@ -99,7 +99,8 @@ some_min m n p q = omega arith
 run_some : (c : After-least) → 0 < c.least.result
 run_some c =
     let page : 0 < c.least-page.result =
-    rw c.least-page.ensures (some_min _ _ (omega (arith, left_reader (goal.at.After-least c).After-landing-to)) (omega (arith, left_chip (goal.at.After-least c).After-landing-to))) in
+    rw c.least-page.ensures (some_min _ _ (omega (arith, left_reader (goal.at.After-least c).After-landing-to))
+    (omega (arith, left_chip (goal.at.After-least c).After-landing-to))) in
     rw c.least.ensures (some_min _ _ page (omega arith))
 
 pub loop-i-smaller : goal.loop-i-smaller

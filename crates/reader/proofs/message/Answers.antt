@@ -26,7 +26,8 @@ serve-requires c =
 pub returns-in-Refused : goal.returns-in-Refused
 returns-in-Refused c =
     let a = c.args in
-    gives_is (by_front (goal.at.returns-in-Refused c).After-front-meant _ c.in-Refused.is) (gives_down _ a.slot a.image.now a.answer.now c.turn_down.ensures.0 c.turn_down.ensures.1)
+    gives_is (by_front (goal.at.returns-in-Refused c).After-front-meant _ c.in-Refused.is)
+    (gives_down _ a.slot a.image.now a.answer.now c.turn_down.ensures.0 c.turn_down.ensures.1)
 
 pub returns-in-Slot : goal.returns-in-Slot
 returns-in-Slot c =

@@ -43,5 +43,6 @@ handle-requires c =
 
 pub returns : goal.returns
 returns c =
+    let on = goal.at.returns c in
     let a = c.args in
-    gives_is (served_on a.slot a.image.now a.msg.now (fits (goal.at.returns c).Else-not-fits) (stands (goal.at.returns c).Else-not-stands)) c.handle.ensures
+    gives_is (served_on a.slot a.image.now a.msg.now (fits on.Else-not-fits) (stands on.Else-not-stands)) c.handle.ensures

@@ -15,7 +15,8 @@ returns-then-word-eq17231 c = passed _ (ne_eqb _ 0x4349 c.if-word-eq17225.false)
 
 pub returns-then-word-eq20301 : goal.returns-then-word-eq20301
 unfolding mark_of
-returns-then-word-eq20301 c = passed _ (ne_eqb _ 0x4349 c.if-word-eq17225.false) (passed _ (ne_eqb _ 0x434F c.if-word-eq17231.false) (taken _ (eq-eqb _ 0x4F4D c.if-word-eq20301.true)))
+returns-then-word-eq20301 c = passed _ (ne_eqb _ 0x4349 c.if-word-eq17225.false) (passed _ (ne_eqb _ 0x434F c.if-word-eq17231.false)
+    (taken _ (eq-eqb _ 0x4F4D c.if-word-eq20301.true)))
 
 pub returns : goal.returns
 unfolding mark_of

@@ -22,14 +22,18 @@ returns-then-byte_of-ne0 c = passed _ (sym (and_fails _ (ne_eqb _ 0 (λ e. c.if-
 
 pub returns-then-byte_of-ne0-2 : goal.returns-then-byte_of-ne0-2
 unfolding length_of
-returns-then-byte_of-ne0-2 c = passed _ (sym (and_holds (past1 (goal.at.returns-then-byte_of-ne0-2 c).Else-byte_of-ne0) (and_fails _ (ne_eqb _ 0 (λ e. c.if-byte_of-ne0-2.true (c.byte_of-2.ensures ∙ e)))))) refl
+returns-then-byte_of-ne0-2 c = passed _ (sym (and_holds (past1 (goal.at.returns-then-byte_of-ne0-2 c).Else-byte_of-ne0)
+    (and_fails _ (ne_eqb _ 0 (λ e. c.if-byte_of-ne0-2.true (c.byte_of-2.ensures ∙ e)))))) refl
 
 pub returns-then-byte_of-ne0-3 : goal.returns-then-byte_of-ne0-3
 unfolding length_of
 returns-then-byte_of-ne0-3 c =
-    passed _ (sym (and_holds (past1 (goal.at.returns-then-byte_of-ne0-3 c).Else-byte_of-ne0) (and_holds (past2 (goal.at.returns-then-byte_of-ne0-3 c).Else-byte_of-ne0-2) (sym (ne_eqb _ 0 (λ e. c.if-byte_of-ne0-3.true (c.byte_of-3.ensures ∙ e))))))) refl
+    let on = goal.at.returns-then-byte_of-ne0-3 c in
+    passed _ (sym (and_holds (past1 on.Else-byte_of-ne0) (and_holds (past2 on.Else-byte_of-ne0-2)
+    (sym (ne_eqb _ 0 (λ e. c.if-byte_of-ne0-3.true (c.byte_of-3.ensures ∙ e))))))) refl
 
 pub returns : goal.returns
 unfolding length_of
 returns c =
-    met _ (sym (and_holds (past1 (goal.at.returns c).Else-byte_of-ne0) (and_holds (past2 (goal.at.returns c).Else-byte_of-ne0-2) (sym (eq-eqb _ 0 (sym c.byte_of-3.ensures ∙ c.if-byte_of-ne0-3.false)))))) refl
+    let on = goal.at.returns c in
+    met _ (sym (and_holds (past1 on.Else-byte_of-ne0) (and_holds (past2 on.Else-byte_of-ne0-2) (sym (eq-eqb _ 0 (sym c.byte_of-3.ensures ∙ c.if-byte_of-ne0-3.false)))))) refl

@@ -31,17 +31,23 @@ returns-then-not-set_sound c =
 
 pub returns-then-not-empty_sound : goal.returns-then-not-empty_sound
 returns-then-not-empty_sound c =
-    and_holds (past1 (goal.at.returns-then-not-empty_sound c).Else-not-page_size) (and_holds (past2 (goal.at.returns-then-not-empty_sound c).Else-not-set_sound) (and_fails _ (sym c.empty_sound.ensures ∙ c.if-not-empty_sound.true)))
+    let on = goal.at.returns-then-not-empty_sound c in
+    and_holds (past1 on.Else-not-page_size) (and_holds (past2 on.Else-not-set_sound) (and_fails _ (sym c.empty_sound.ensures ∙ c.if-not-empty_sound.true)))
 
 pub returns-then-not-idle_sound : goal.returns-then-not-idle_sound
 returns-then-not-idle_sound c =
-    and_holds (past1 (goal.at.returns-then-not-idle_sound c).Else-not-page_size) (and_holds (past2 (goal.at.returns-then-not-idle_sound c).Else-not-set_sound) (and_holds (past3 (goal.at.returns-then-not-idle_sound c).Else-not-empty_sound) (and_fails _ (sym c.idle_sound.ensures ∙ c.if-not-idle_sound.true))))
+    let on = goal.at.returns-then-not-idle_sound c in
+    and_holds (past1 on.Else-not-page_size) (and_holds (past2 on.Else-not-set_sound) (and_holds (past3 on.Else-not-empty_sound)
+    (and_fails _ (sym c.idle_sound.ensures ∙ c.if-not-idle_sound.true))))
 
 pub returns-then-not-type_sound : goal.returns-then-not-type_sound
 returns-then-not-type_sound c =
-    and_holds (past1 (goal.at.returns-then-not-type_sound c).Else-not-page_size) (and_holds (past2 (goal.at.returns-then-not-type_sound c).Else-not-set_sound) (and_holds (past3 (goal.at.returns-then-not-type_sound c).Else-not-empty_sound) (and_holds (past4 (goal.at.returns-then-not-type_sound c).Else-not-idle_sound)
+    let on = goal.at.returns-then-not-type_sound c in
+    and_holds (past1 on.Else-not-page_size) (and_holds (past2 on.Else-not-set_sound) (and_holds (past3 on.Else-not-empty_sound) (and_holds (past4 on.Else-not-idle_sound)
     (and_fails _ (sym c.type_sound.ensures ∙ c.if-not-type_sound.true)))))
 
 pub returns : goal.returns
 returns c =
-    and_holds (past1 (goal.at.returns c).Else-not-page_size) (and_holds (past2 (goal.at.returns c).Else-not-set_sound) (and_holds (past3 (goal.at.returns c).Else-not-empty_sound) (and_holds (past4 (goal.at.returns c).Else-not-idle_sound) (and_holds (past5 (goal.at.returns c).Else-not-type_sound) c.open_sound.ensures))))
+    let on = goal.at.returns c in
+    and_holds (past1 on.Else-not-page_size) (and_holds (past2 on.Else-not-set_sound) (and_holds (past3 on.Else-not-empty_sound)
+    (and_holds (past4 on.Else-not-idle_sound) (and_holds (past5 on.Else-not-type_sound) c.open_sound.ensures))))

@@ -25,7 +25,8 @@ pub returns-then-slot-eq0 : goal.returns-then-slot-eq0
 returns-then-slot-eq0 c v = stop4 (past3 refl) refl c.if-slot-eq0.true v
 
 pub returns-then-facts-eq0 : goal.returns-then-facts-eq0
-returns-then-facts-eq0 c v = stop5 (on4 (goal.at.returns-then-facts-eq0 c).Else-slot-eq0) (ap not (eq-eqb _ 0 (sym (ap (λ (f : Facts). f.covered) c.facts.ensures) ∙ c.if-facts-eq0.true))) v
+returns-then-facts-eq0 c v = stop5 (on4 (goal.at.returns-then-facts-eq0 c).Else-slot-eq0) (ap not
+    (eq-eqb _ 0 (sym (ap (λ (f : Facts). f.covered) c.facts.ensures) ∙ c.if-facts-eq0.true))) v
 
 pub returns-then-n-ne5 : goal.returns-then-n-ne5
 returns-then-n-ne5 c v = stop6 (on5 (goal.at.returns-then-n-ne5 c).Else-facts-eq0) c.if-n-ne5.true v

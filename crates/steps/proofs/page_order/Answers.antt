@@ -34,7 +34,8 @@ pub returns-then-slot-eq0 : goal.returns-then-slot-eq0
 returns-then-slot-eq0 c = stop4 (past3 refl) refl c.if-slot-eq0.true _
 
 pub returns-then-facts-eq0 : goal.returns-then-facts-eq0
-returns-then-facts-eq0 c = stop5 (on4 (goal.at.returns-then-facts-eq0 c).Else-slot-eq0) (ap not (eq-eqb _ 0 (sym (ap (λ (f : Facts). f.page) c.facts.ensures) ∙ c.if-facts-eq0.true))) _
+returns-then-facts-eq0 c = stop5 (on4 (goal.at.returns-then-facts-eq0 c).Else-slot-eq0) (ap not
+    (eq-eqb _ 0 (sym (ap (λ (f : Facts). f.page) c.facts.ensures) ∙ c.if-facts-eq0.true))) _
 
 pub returns-then-n-p : goal.returns-then-n-p
 returns-then-n-p c = stop6 (on5 (goal.at.returns-then-n-p c).Else-facts-eq0) c.if-n-p.true _

@@ -8,7 +8,8 @@ use Rattle.words.proofs.put_eight.Given as goal
 
 abbrev pub invariant-loop-i : goal.invariant-loop-i
 invariant-loop-i l =
-    (l.i ≤ 7) × (length l.out ≡ length l.initial.out) × (l.left < 256 ^ (8 - l.i)) × (sets l.initial.out l.k (low_first 7 l.n) ≡ sets l.out (l.k + l.i) (low_first (7 - l.i) l.left))
+    (l.i ≤ 7) × (length l.out ≡ length l.initial.out) × (l.left < 256 ^ (8 - l.i)) × (sets l.initial.out l.k (low_first 7 l.n) ≡ sets l.out (l.k + l.i)
+    (low_first (7 - l.i) l.left))
 
 abbrev pub decreases-loop-i : goal.decreases-loop-i
 decreases-loop-i l = 7 - l.i
