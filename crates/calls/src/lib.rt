@@ -9,23 +9,18 @@ ghost use Rattle.frame.specs.Exchange.{number};
 ghost use Rattle.record.specs.Raw.{kind_of, slot_of};
 ghost use Rattle.calls.specs.Calls.{broken_as, keeping, raw_served, raw_exchange, raw_insertion, raw_removal, RawGives};
 
+use chips::Chip;
 use frame::{Refusal, Reply, Verdict};
-use reader::Meant;
-use record::Reading;
-use slot::Holds;
+use record::Flaw;
 
 // Writes the next slot into the record where a call is not turned down, and hands on the verdict.
 fn keep(reply: Reply, raw: &mut [u8]) -> Verdict
     requires { length raw.old ≡ 32 }
     ensures { (result ≡ reply.verdict) × (raw.new ≡ keeping (number reply.verdict) reply.slot raw.old) }
 {
-    let verdict = reply.verdict;
-    let Verdict::Answered(len) = verdict else {
-        return verdict;
-    };
-    let next = reply.slot;
-    record::write_record(next, raw);
-    Verdict::Answered(len)
+    let len = reply.verdict?;
+    record::write_record(reply.slot, raw);
+    Ok(len)
 }
 
 // The same after a message, which changes bytes 1 to 16 alone: the kind is the slot's already, and the rest 00h.
@@ -33,20 +28,16 @@ fn keep_state(reply: Reply, raw: &mut [u8]) -> Verdict
     requires { (byte raw.old 0 ≡ kind_of reply.slot.holds) × (drop 17 raw.old ≡ replicate 15 0) }
     ensures { (result ≡ reply.verdict) × (raw.new ≡ keeping (number reply.verdict) reply.slot raw.old) }
 {
-    let verdict = reply.verdict;
-    let Verdict::Answered(len) = verdict else {
-        return verdict;
-    };
-    let next = reply.slot;
-    record::write_state(next, raw);
-    Verdict::Answered(len)
+    let len = reply.verdict?;
+    record::write_state(reply.slot, raw);
+    Ok(len)
 }
 
 // A broken record: 3 where the image is not one of its kind, else 4.
-fn broken(holds: Holds, image: &[u8]) -> Refusal
+fn broken(holds: Option<Chip>, image: &[u8]) -> Refusal
     ensures { result ≡ broken_as holds image.now }
 {
-    let Holds::Card(chip) = holds else {
+    let Some(chip) = holds else {
         return Refusal::Record;
     };
     if !card::is_card(chip, image) {
@@ -61,11 +52,10 @@ fn serve(raw: &mut [u8], image: &mut [u8], msg: &[u8], answer: &mut [u8]) -> Ver
     ensures { RawGives (raw_served (slot_of raw.old) raw.old image.old msg.now) result raw.new
         image.new answer.old answer.new }
 {
-    let reading = record::read_record(raw);
-    match reading {
-        Reading::Unknown => Verdict::Refused(Refusal::Image),
-        Reading::Broken(holds) => Verdict::Refused(broken(holds, image)),
-        Reading::Found(slot) => {
+    match record::read_record(raw) {
+        Err(Flaw::Unknown) => Err(Refusal::Image),
+        Err(Flaw::Broken(holds)) => Err(broken(holds, image)),
+        Ok(slot) => {
             let reply = reader::serve(slot, image, msg, answer);
             keep_state(reply, raw)
         }
@@ -77,11 +67,8 @@ pub fn message(raw: &mut [u8], image: &mut [u8], msg: &[u8], answer: &mut [u8]) 
     ensures { RawGives (raw_exchange raw.old image.old msg.now (length answer.old)) result raw.new
         image.new answer.old answer.new }
 {
-    let meant = reader::front(msg, answer.len());
-    match meant {
-        Meant::Refused(refusal) => Verdict::Refused(refusal),
-        Meant::Slot(_) => serve(raw, image, msg, answer),
-    }
+    reader::front(msg, answer.len())?;
+    serve(raw, image, msg, answer)
 }
 
 // A card is put in.
@@ -89,10 +76,10 @@ pub fn insert(raw: &mut [u8], kind: u8, image: &[u8]) -> Verdict
     ensures { RawGives (raw_insertion raw.old kind image.now) result raw.new image.now [] [] }
 {
     if raw.len() != 32 {
-        return Verdict::Refused(Refusal::Record);
+        return Err(Refusal::Record);
     }
     if raw[0] != 0 {
-        return Verdict::Refused(Refusal::Occupied);
+        return Err(Refusal::Occupied);
     }
     let reply = reader::insert(slot::empty(), kind, image);
     keep(reply, raw)
@@ -103,8 +90,8 @@ pub fn remove(raw: &mut [u8]) -> Verdict
     ensures { RawGives (raw_removal raw.old) result raw.new [] [] [] }
 {
     if raw.len() != 32 {
-        return Verdict::Refused(Refusal::Record);
+        return Err(Refusal::Record);
     }
     record::write_record(slot::empty(), raw);
-    Verdict::Answered(0)
+    Ok(0)
 }

@@ -8,9 +8,9 @@ use lib.IntN.{ℤ, pos, ◌-ℤ◌}
 use mir.Syntax.{w32}
 use mir.Val.{SFits, to_z, of_z}
 use mir.ValLaws.{to_z_pos}
+use Rattle.std.specs.Prelude.{Result, Ok, Err}
 use Rattle.words.specs.Bounds.{longest_answer}
 use Rattle.frame.specs.declared.Refusal.{Refusal}
-use Rattle.frame.specs.declared.Verdict.{Verdict}
 use Rattle.frame.specs.Exchange.{number_of, number, answer_length}
 use Rattle.calls.specs.Calls.{RawOutcome, RawGives, result_of, Returns}
 
@@ -37,12 +37,12 @@ minus_told Refusal.Image = refl
 minus_told Refusal.Record = refl
 minus_told Refusal.Occupied = refl
 
-verdict_number : (v : Verdict) → answer_length v ≤ longest_answer → to_z w32 (of_z w32 (result_of (number v) (answer_length v))) ≡ result_of (number v) (answer_length v)
-verdict_number (Verdict.Answered n) h = to_z_pos w32 n (omega (arith, h))
-verdict_number (Verdict.Refused f) h = refusal_number f
+verdict_number : (v : Result ℕ Refusal) → answer_length v ≤ longest_answer → to_z w32 (of_z w32 (result_of (number v) (answer_length v))) ≡ result_of (number v) (answer_length v)
+verdict_number (Ok n) h = to_z_pos w32 n (omega (arith, h))
+verdict_number (Err f) h = refusal_number f
 
 -- what a call gives, as one number
-pub returns_number : {o : RawOutcome} {v : Verdict} {left image was holds : List ℕ} {z : ℤ} → RawGives o v left image was holds → length o.answer ≤ longest_answer
+pub returns_number : {o : RawOutcome} {v : Result ℕ Refusal} {left image was holds : List ℕ} {z : ℤ} → RawGives o v left image was holds → length o.answer ≤ longest_answer
     → z ≡ result_of (number v) (answer_length v) → Returns o (to_z w32 (of_z w32 z)) left image was holds
 returns_number {o} {v} {z = z} g h e = record {
   result =

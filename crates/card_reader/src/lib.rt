@@ -14,8 +14,8 @@ fn result_of(verdict: Verdict) -> i32
     ensures { result ≡ result_of (number verdict) (answer_length verdict) }
 {
     match verdict {
-        Verdict::Answered(len) => len as i32,
-        Verdict::Refused(refusal) => -(refusal.number() as i32),
+        Ok(len) => len as i32,
+        Err(refusal) => -(refusal.number() as i32),
     }
 }
 

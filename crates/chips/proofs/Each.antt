@@ -5,16 +5,15 @@ use mathlib.Core.Bool.{Bool, true}
 use mathlib.Core.List.{List, [], ◌∷◌}
 use Prim.Native.Nat.{ℕ}
 use borrow.Author.Tests.{eqb-true}
+use Rattle.std.specs.Prelude.{Option, Some}
 use Rattle.words.specs.Choice.{◌⇒◌⁏◌, ◌and◌, ◌means◌, ◌is◌}
 use Rattle.words.proofs.Choices.{either, and_true, means_true}
 use Rattle.chips.specs.Kinds.{facts, chips, chip_among, chip_of}
 use Rattle.chips.specs.declared.Chip.{Chip}
 use Rattle.chips.specs.declared.Facts.{Facts}
-use Rattle.chips.specs.declared.Known.{Known}
-use Rattle.chips.specs.declared.Known.TheVariants.{Is}
 
 -- a kind's own number gives its chip
-pub known_kind : (chip : Chip) → chip_of (facts chip).kind ≡ Is chip
+pub known_kind : (chip : Chip) → chip_of (facts chip).kind ≡ Some chip
 unfolding chip_of chip_among ◌⇒◌⁏◌
 known_kind Chip.I2c1 = refl
 known_kind Chip.I2c2 = refl
@@ -37,9 +36,9 @@ unfoldable pub all_of : (Chip → Bool) → List Chip → Bool
 all_of test [] = true
 all_of test (chip ∷ rest) = test chip and all_of test rest
 
-record Found (k : ℕ) (test : Chip → Bool) (rest : List Chip) (found : Known) : Type 0 where
-  number : (chip : Chip) → found ≡ Is chip → (facts chip).kind ≡ k
-  tested : (chip : Chip) → found ≡ Is chip → all_of test rest ≡ true → test chip ≡ true
+record Found (k : ℕ) (test : Chip → Bool) (rest : List Chip) (found : Option Chip) : Type 0 where
+  number : (chip : Chip) → found ≡ Some chip → (facts chip).kind ≡ k
+  tested : (chip : Chip) → found ≡ Some chip → all_of test rest ≡ true → test chip ≡ true
 
 found_among : (k : ℕ) (test : Chip → Bool) (rest : List Chip) → Found k test rest (chip_among k rest)
 unfolding chip_among all_of
@@ -53,7 +52,7 @@ found_among k test (first ∷ rest) =
     })
     (λ _. record { number = later.number; tested = λ chip e h. later.tested chip e (and_true _ _ h).1 })
 
-pub kind_of_found : (k : ℕ) (chip : Chip) → chip_of k ≡ Is chip → (facts chip).kind ≡ k
+pub kind_of_found : (k : ℕ) (chip : Chip) → chip_of k ≡ Some chip → (facts chip).kind ≡ k
 unfolding chip_of
 kind_of_found k chip e = (found_among k (λ (c : Chip). true) chips).number chip e
 

@@ -1,12 +1,10 @@
 -- "Cards we model": the kinds of card, as one table of numbers. A new kind is a new row here; the rules below speak of a row's numbers and
 -- never of chips. What each number is, the struct `Facts` says.
-use Rattle.std.specs.Prelude.{ℕ, true, false, List, [], ◌∷◌}
+use Rattle.std.specs.Prelude.{ℕ, true, false, List, [], ◌∷◌, Option, Some, None}
 use Rattle.words.specs.Choice.{◌⇒◌⁏◌, ◌is◌}
 use Rattle.chips.specs.declared.Chip.{Chip}
 use Rattle.chips.specs.declared.Chip.TheVariants.{I2c1, I2c2, I2c4, I2c8, I2c16, I2c32, I2c64, I2c128, I2c256, I2c512, I2c1024, Sle4428, Sle4418, Sle4442, Sle4432}
 use Rattle.chips.specs.declared.Facts.{Facts}
-use Rattle.chips.specs.declared.Known.{Known}
-use Rattle.chips.specs.declared.Known.TheVariants.{Is, Unknown}
 
 -- An I2C card is memory alone: counter, code and protection bytes would stand past its end, and there are none.
 abbrev pub i2c : ℕ → ℕ → ℕ → ℕ → Facts
@@ -106,9 +104,9 @@ abbrev pub chips : List Chip
 chips = I2c1 ∷ I2c2 ∷ I2c4 ∷ I2c8 ∷ I2c16 ∷ I2c32 ∷ I2c64 ∷ I2c128 ∷ I2c256 ∷ I2c512 ∷ I2c1024 ∷ Sle4428 ∷ Sle4418 ∷ Sle4442 ∷ Sle4432 ∷ []
 
 -- the chip of a kind number: the one whose row has it
-unfoldable pub chip_among : ℕ → List Chip → Known
-chip_among k [] = Unknown
-chip_among k (chip ∷ rest) = let later = chip_among k rest in k is (facts chip).kind ⇒ Is chip ⁏ later
+unfoldable pub chip_among : ℕ → List Chip → Option Chip
+chip_among k [] = None
+chip_among k (chip ∷ rest) = let later = chip_among k rest in k is (facts chip).kind ⇒ Some chip ⁏ later
 
-unfoldable pub chip_of : ℕ → Known
+unfoldable pub chip_of : ℕ → Option Chip
 chip_of k = chip_among k chips

@@ -26,13 +26,6 @@ pub enum Chip {
     Sle4428,
 }
 
-// The chip of a kind byte.
-#[derive(Clone, Copy)]
-pub enum Known {
-    Is(Chip),
-    Unknown,
-}
-
 // What is known of a kind of card: a row of the table.
 #[derive(Clone, Copy)]
 pub struct Facts {
@@ -168,26 +161,26 @@ impl Chip {
     }
 }
 
-// The chip of a kind number.
-pub fn chip_of(kind: u8) -> Known
+// The chip of a kind number, where it is one.
+pub fn chip_of(kind: u8) -> Option<Chip>
     ensures { result ≡ chip_of kind }
 {
     match kind {
-        1 => Known::Is(Chip::I2c1),
-        2 => Known::Is(Chip::I2c2),
-        3 => Known::Is(Chip::I2c4),
-        4 => Known::Is(Chip::I2c8),
-        5 => Known::Is(Chip::I2c16),
-        6 => Known::Is(Chip::I2c32),
-        7 => Known::Is(Chip::I2c64),
-        8 => Known::Is(Chip::I2c128),
-        9 => Known::Is(Chip::I2c256),
-        10 => Known::Is(Chip::I2c512),
-        11 => Known::Is(Chip::I2c1024),
-        20 => Known::Is(Chip::Sle4428),
-        21 => Known::Is(Chip::Sle4418),
-        30 => Known::Is(Chip::Sle4442),
-        31 => Known::Is(Chip::Sle4432),
-        0 | 12..=19 | 22..=29 | 32..=255 => Known::Unknown,
+        1 => Some(Chip::I2c1),
+        2 => Some(Chip::I2c2),
+        3 => Some(Chip::I2c4),
+        4 => Some(Chip::I2c8),
+        5 => Some(Chip::I2c16),
+        6 => Some(Chip::I2c32),
+        7 => Some(Chip::I2c64),
+        8 => Some(Chip::I2c128),
+        9 => Some(Chip::I2c256),
+        10 => Some(Chip::I2c512),
+        11 => Some(Chip::I2c1024),
+        20 => Some(Chip::Sle4428),
+        21 => Some(Chip::Sle4418),
+        30 => Some(Chip::Sle4442),
+        31 => Some(Chip::Sle4432),
+        0 | 12..=19 | 22..=29 | 32..=255 => None,
     }
 }

@@ -2,22 +2,20 @@
 // image has its counts. The rules are written in specs/Counts.antt.
 #![tactic(auto)]
 
-ghost use Rattle.std.specs.Prelude.{◌≡◌, ◌%◌, ◌≤◌, length};
+ghost use Rattle.std.specs.Prelude.{◌≡◌, ◌%◌, ◌≤◌, length, Some};
 ghost use Rattle.words.specs.Bounds.{largest};
 ghost use Rattle.chips.specs.Kinds.{facts};
 ghost use Rattle.bits.specs.Bits.{zeros_of};
-ghost use Rattle.slot.specs.declared.Holds.TheVariants.{Card};
 ghost use Rattle.counts.specs.Counts.{tries_of, protected_of};
 
 use chips::Chip;
-use slot::Holds;
 use words::{byte_at, eight_at, four_at};
 
 // Tries left of the card that is in; 0 where it has no code, and with none.
-pub fn tries_of(holds: Holds, image: &[u8]) -> u8
+pub fn tries_of(holds: Option<Chip>, image: &[u8]) -> u8
     ensures { result ≡ tries_of holds image.now }
 {
-    let Holds::Card(chip) = holds else {
+    let Some(chip) = holds else {
         return 0;
     };
     if !chip.facts().coded {
@@ -29,7 +27,7 @@ pub fn tries_of(holds: Holds, image: &[u8]) -> u8
 // Tries left of a card, in an image of its length; 0 where it has no code.
 pub fn tries_in(chip: Chip, image: &[u8]) -> u8
     requires { length image.now ≡ (facts chip).size }
-    ensures { result ≡ tries_of (Card chip) image.now }
+    ensures { result ≡ tries_of (Some chip) image.now }
 {
     if !chip.facts().coded {
         return 0;
@@ -58,7 +56,7 @@ fn zeros_in(bytes: &[u8]) -> usize
 // The number of protected bytes of a card, in an image of its length: the zero bits of its protection bytes. An I2C card has none and is done at once.
 pub fn count_in(chip: Chip, image: &[u8]) -> u16
     requires { length image.now ≡ (facts chip).size }
-    ensures { result ≡ protected_of (Card chip) image.now }
+    ensures { result ≡ protected_of (Some chip) image.now }
 {
     if chip.facts().covered == 0 {
         return 0;
@@ -69,10 +67,10 @@ pub fn count_in(chip: Chip, image: &[u8]) -> u16
 }
 
 // The number of protected bytes of the card that is in. It is 0 with none, and in an image that has not the card's length.
-pub fn protected_of(holds: Holds, image: &[u8]) -> u16
+pub fn protected_of(holds: Option<Chip>, image: &[u8]) -> u16
     ensures { result ≡ protected_of holds image.now }
 {
-    let Holds::Card(chip) = holds else {
+    let Some(chip) = holds else {
         return 0;
     };
     if image.len() != chip.facts().size {

@@ -11,7 +11,7 @@ ghost use Rattle.frame.specs.Exchange.{reply, Gives};
 
 use faults::{Fault, fault_of, is_clear};
 use frame::{Reply, seal, seal_done};
-use slot::{Holds, Slot};
+use slot::Slot;
 
 // 6Fh: the pseudo-APDU goes to the card that is in.
 fn transfer(slot: Slot, image: &mut [u8], msg: &[u8], answer: &mut [u8]) -> Reply
@@ -23,8 +23,7 @@ fn transfer(slot: Slot, image: &mut [u8], msg: &[u8], answer: &mut [u8]) -> Repl
     if !is_clear(fault) {
         return seal(0x80, fault, 0, slot, msg, answer);
     }
-    let holds = slot.holds;
-    let Holds::Card(chip) = holds else {
+    let Some(chip) = slot.holds else {
         return seal(0x80, fault, 0, slot, msg, answer);
     };
     let told = command::command(chip, slot, image, &msg[10..], &mut answer[10..]);

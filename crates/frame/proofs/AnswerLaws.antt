@@ -5,6 +5,7 @@ use mathlib.Core.Bool.{true, false, not, false≢true}
 use mathlib.Core.List.{List, ◌++◌}
 use native.Mathlib.Omega.{arith}
 use lib.ListN.{length, take, drop, length-append, take-append-drop}
+use Rattle.std.specs.Prelude.{Err}
 use Rattle.words.specs.Choice.{◌or◌}
 use Rattle.words.specs.Bytes.{over, four_bytes}
 use Rattle.words.proofs.Choices.{first, rest}
@@ -14,7 +15,6 @@ use Rattle.sound.specs.Sound.{image_is_card, page_size, sound}
 use Rattle.orders.specs.Orders.{Deed}
 use Rattle.faults.specs.declared.Fault.{Fault}
 use Rattle.frame.specs.declared.Refusal.{Refusal}
-use Rattle.frame.specs.declared.Verdict.{Verdict}
 use Rattle.frame.specs.declared.Reply.{Reply}
 use Rattle.faults.proofs.ClearLaws.{clear_is, clear_slot}
 use Rattle.faults.specs.Faults.{Request, b_slot, b_seq, type_byte, request_of, fault_of, is_clear}
@@ -25,7 +25,7 @@ pub gives_is : {o o' : Outcome} {r : Reply} {left was holds : List ℕ} → o �
 gives_is {o} {o'} {r} {left} {was} {holds} e g = subst⁻¹ (λ (x : Outcome). Gives x r left was holds) e g
 
 -- turned down, all is as it came
-pub gives_down : (refusal : Refusal) (s : Slot) (image was : List ℕ) {r : Reply} → r.verdict ≡ Verdict.Refused refusal → r.slot ≡ s
+pub gives_down : (refusal : Refusal) (s : Slot) (image was : List ℕ) {r : Reply} → r.verdict ≡ Err refusal → r.slot ≡ s
     → Gives (turned_down refusal s image) r image was was
 gives_down refusal s image was e h = record {
   number = ap number e;

@@ -1,28 +1,24 @@
 -- One message, one insertion, one removal: what comes of each, for every input.
-use Rattle.std.specs.Prelude.{◌≡◌, ℕ, ◌+◌, true, false, not, List, [], ◌∷◌, length, take, ltb}
+use Rattle.std.specs.Prelude.{◌≡◌, ℕ, ◌+◌, true, false, not, List, [], ◌∷◌, length, take, ltb, Option, Result, Some, None, Ok, Err}
 use Rattle.words.specs.Choice.{◌⇒◌⁏◌, ◌isnt◌}
 use Rattle.words.specs.Bytes.{over}
 use Rattle.words.specs.Bounds.{least_room}
-use Rattle.chips.specs.declared.Known.{Known}
-use Rattle.chips.specs.declared.Known.TheVariants.{Is, Unknown}
 use Rattle.chips.specs.declared.Facts.{Facts}
 use Rattle.chips.specs.Kinds.{facts, chip_of}
 use Rattle.sets.specs.Sets.{bytes_of, set_of}
 use Rattle.card.specs.Images.{is_card}
 use Rattle.slot.specs.declared.Slot.{Slot}
-use Rattle.slot.specs.declared.Holds.{Holds}
-use Rattle.slot.specs.declared.Holds.TheVariants.{Empty, Card}
 use Rattle.slot.specs.Slots.{occupied, powered, set_as, defaulted}
 use Rattle.counts.specs.Counts.{put_in}
 use Rattle.sound.specs.Sound.{image_is_card, sound}
 use Rattle.orders.specs.Orders.{Deed, commanded}
 use Rattle.faults.specs.declared.Fault.{Fault}
 use Rattle.frame.specs.declared.Refusal.{Refusal}
-use Rattle.frame.specs.declared.Verdict.{Verdict}
 use Rattle.frame.specs.declared.Reply.{Reply}
 use Rattle.faults.specs.Faults.{Request, SetParameters, PowerOn, PowerOff, SlotStatus, GetParameters, ResetParameters, Transfer, Unsupported}
 use Rattle.faults.specs.Faults.{type_byte, apdu, b_slot, b_seq, request_of, fault_of, is_clear}
 use Rattle.frame.specs.Answers.{b_error, card_state, b_status, byte9, header, answer}
+use Rattle.chips.specs.declared.Chip.{Chip}
 
 -- "Turned down without an answer": the numbers of the table
 abbrev pub number_of : Refusal → ℕ
@@ -56,16 +52,16 @@ abbrev pub told : Slot → List ℕ → Deed
 told s image = record { said = bytes_of s.set; slot = s; image = image }
 
 -- what a message without a fault does; 62h and 6Fh come here with a card alone. 02: the default returns "on reset, power on"
-unfoldable pub deed : Request → Holds → Slot → List ℕ → List ℕ → Deed
+unfoldable pub deed : Request → Option Chip → Slot → List ℕ → List ℕ → Deed
 deed SetParameters h s image m = told (set_as (set_of m) s) image
-deed PowerOn Empty s image m = idle s image
-deed PowerOn (Card chip) s image m = record { said = reset (facts chip) image; slot = defaulted (powered true s); image = image }
+deed PowerOn None s image m = idle s image
+deed PowerOn (Some chip) s image m = record { said = reset (facts chip) image; slot = defaulted (powered true s); image = image }
 deed PowerOff h s image m = idle (powered false s) image
 deed SlotStatus h s image m = idle s image
 deed GetParameters h s image m = told s image
 deed ResetParameters h s image m = told (defaulted s) image
-deed Transfer Empty s image m = idle s image
-deed Transfer (Card chip) s image m = commanded (facts chip) s image (apdu m)
+deed Transfer None s image m = idle s image
+deed Transfer (Some chip) s image m = commanded (facts chip) s image (apdu m)
 deed Unsupported h s image m = idle s image
 
 -- the answer to a message with fault f and deed d
@@ -94,9 +90,9 @@ exchange s image m room =
     ⁏ served s image m
 
 -- "Insertion tests 5, then 3"; "Insertion gives: inactive, no type, page 8, closed, image unchanged"
-unfoldable pub inserted_as : Known → Slot → List ℕ → Outcome
-inserted_as (Is chip) s image = is_card (facts chip) image ⇒ record { number = 0; answer = []; slot = put_in chip image; image = image } ⁏ turned_down Refusal.Image s image
-inserted_as Unknown s image = turned_down Refusal.Image s image
+unfoldable pub inserted_as : Option Chip → Slot → List ℕ → Outcome
+inserted_as (Some chip) s image = is_card (facts chip) image ⇒ record { number = 0; answer = []; slot = put_in chip image; image = image } ⁏ turned_down Refusal.Image s image
+inserted_as None s image = turned_down Refusal.Image s image
 
 unfoldable pub insertion : Slot → ℕ → List ℕ → Outcome
 insertion s kind image =
@@ -104,13 +100,13 @@ insertion s kind image =
     ⁏ inserted_as (chip_of kind) s image
 
 -- The verdict of a call: its number, and the answer's length.
-abbrev pub number : Verdict → ℕ
-number (Verdict.Answered n) = 0
-number (Verdict.Refused r) = number_of r
+abbrev pub number : Result ℕ Refusal → ℕ
+number (Ok n) = 0
+number (Err r) = number_of r
 
-abbrev pub answer_length : Verdict → ℕ
-answer_length (Verdict.Answered n) = n
-answer_length (Verdict.Refused r) = 0
+abbrev pub answer_length : Result ℕ Refusal → ℕ
+answer_length (Ok n) = n
+answer_length (Err r) = 0
 
 -- What a call gives where o is to come of it: the verdict's number and length, the next slot, the image as it left it, and the answer
 -- buffer, the answer laid over what it held. Turned down, the answer is empty and the buffer is as it was.
@@ -123,6 +119,6 @@ pub record Gives (o : Outcome) (r : Reply) (left was holds : List ℕ) : Type 0 
 
 -- What sealing an answer leaves behind: its verdict, the slot after the call, and the header over the buffer. This is no rule.
 pub record Sealed (type : ℕ) (f : Fault) (len : ℕ) (s : Slot) (m : List ℕ) (r : Reply) (was holds : List ℕ) : Type 0 where
-  pub verdict : r.verdict ≡ Verdict.Answered (10 + len)
+  pub verdict : r.verdict ≡ Ok (10 + len)
   pub slot : r.slot ≡ s
   pub buffer : holds ≡ over (header type len (b_slot m) (b_seq m) (b_status f (card_state (b_slot m) s)) (b_error f) (byte9 type f (card_state (b_slot m) s) s)) was

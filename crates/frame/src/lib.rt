@@ -25,12 +25,8 @@ pub enum Refusal {
     Occupied,
 }
 
-#[derive(Clone, Copy)]
-pub enum Verdict {
-    // How long the answer is.
-    Answered(usize),
-    Refused(Refusal),
-}
+// What comes of a call: how long the answer is, or why there is none.
+pub type Verdict = Result<usize, Refusal>;
 
 #[derive(Clone, Copy)]
 pub struct Reply {
@@ -53,26 +49,21 @@ impl Refusal {
     }
 }
 
-impl Verdict {
-    // The refusal's number, or 0.
-    pub fn number(self) -> u8
-        ensures { (result ≡ number self) × (result ≤ 5) }
-    {
-        match self {
-            Verdict::Answered(_) => 0,
-            Verdict::Refused(refusal) => refusal.number(),
-        }
+// The refusal's number, or 0.
+pub fn number(verdict: Verdict) -> u8
+    ensures { (result ≡ number verdict) × (result ≤ 5) }
+{
+    match verdict {
+        Ok(_) => 0,
+        Err(refusal) => refusal.number(),
     }
+}
 
-    // The answer's length.
-    pub fn len(self) -> usize
-        ensures { result ≡ answer_length self }
-    {
-        match self {
-            Verdict::Answered(len) => len,
-            Verdict::Refused(_) => 0,
-        }
-    }
+// The answer's length, 0 where there is none.
+pub fn answer_length(verdict: Verdict) -> usize
+    ensures { result ≡ answer_length verdict }
+{
+    verdict.unwrap_or(0)
 }
 
 // ---- the header
@@ -195,7 +186,7 @@ pub fn seal(
         last_of(answer_type, fault, state, slot),
     );
     Reply {
-        verdict: Verdict::Answered(10 + len),
+        verdict: Ok(10 + len),
         slot,
     }
 }
@@ -217,7 +208,7 @@ pub fn seal_done(answer_type: u8, len: usize, slot: Slot, msg: &[u8], answer: &m
         last_of(answer_type, Fault::Clear, state, slot),
     );
     Reply {
-        verdict: Verdict::Answered(10 + len),
+        verdict: Ok(10 + len),
         slot,
     }
 }

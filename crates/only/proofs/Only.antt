@@ -6,6 +6,7 @@ use mathlib.Core.Bool.{Bool}
 use mathlib.Core.List.{List, []}
 use lib.ListN.{length, take}
 use lib.IntN.{ℤ}
+use Rattle.std.specs.Prelude.{Option, Result}
 use Rattle.words.specs.Choice.{◌⇒◌⁏◌, ◌is◌}
 use Rattle.words.specs.Bounds.{least_room}
 use Rattle.records.specs.declared.Mark.{Mark}
@@ -14,23 +15,19 @@ use Rattle.records.specs.declared.Record.{Record}
 use Rattle.records.specs.Records.{mark_of, most, record_at}
 use Rattle.chips.specs.declared.Chip.{Chip}
 use Rattle.chips.specs.declared.Facts.{Facts}
-use Rattle.chips.specs.declared.Known.{Known}
 use Rattle.chips.specs.Kinds.{facts, chip_of}
 use Rattle.lines.specs.Lines.{Puts}
-use Rattle.slot.specs.declared.Holds.{Holds}
 use Rattle.slot.specs.declared.Slot.{Slot}
 use Rattle.sets.specs.Sets.{default_set, set_of, fault_at, takes}
 use Rattle.slot.specs.Slots.{occupied, own_type, slotted, inserted, removed, powered, selecting, paged, opened, closed, set_as, defaulted, tries_as, protected_as}
 use Rattle.counts.specs.Counts.{tries_of, protected_of}
 use Rattle.card.specs.Images.{is_card}
 use Rattle.sound.specs.Sound.{image_is_card, sound}
-use Rattle.record.specs.declared.Reading.{Reading}
+use Rattle.record.specs.declared.Flaw.{Flaw}
 use Rattle.record.specs.Raw.{raw_of, slot_of}
 use Rattle.frame.specs.declared.Refusal.{Refusal}
-use Rattle.frame.specs.declared.Verdict.{Verdict}
 use Rattle.frame.specs.declared.Reply.{Reply}
 use Rattle.frame.specs.Exchange.{Outcome, number_of, number, answer_length, exchange, insertion, Gives}
-use Rattle.reader.specs.declared.Meant.{Meant}
 use Rattle.reader.specs.Fronts.{front_of}
 use Rattle.reader.proofs.Verdicts.{verdict_only, reply_only}
 use Rattle.calls.specs.Calls.{RawOutcome, raw_exchange, raw_insertion, raw_removal, RawGives, Returns}
@@ -56,7 +53,7 @@ gives_only {r = r} {r' = r'} g g' = (
 )
 
 -- a contract by `RawGives`
-raw_gives_only : {o : RawOutcome} {v v' : Verdict} {left left' next next' was holds holds' : List ℕ} → RawGives o v left next was holds → RawGives o v' left' next' was holds'
+raw_gives_only : {o : RawOutcome} {v v' : Result ℕ Refusal} {left left' next next' was holds holds' : List ℕ} → RawGives o v left next was holds → RawGives o v' left' next' was holds'
     → (v ≡ v') × (left ≡ left') × (next ≡ next') × (holds ≡ holds')
 raw_gives_only {v = v} {v' = v'} g g' = (
   verdict_only v v' (value_only g.number g'.number) (value_only g.len g'.len),
@@ -87,7 +84,7 @@ done_only r r' a b c =
     ∙ ap (done_by_lem r'.number r'.len) c
 
 -- ---- chips and card
-pub chips_chip_of_only : (kind : ℕ) (r r' : Known) → r ≡ chip_of kind → r' ≡ chip_of kind → r ≡ r'
+pub chips_chip_of_only : (kind : ℕ) (r r' : Option Chip) → r ≡ chip_of kind → r' ≡ chip_of kind → r ≡ r'
 chips_chip_of_only kind r r' = value_only
 
 pub chips_facts_only : (chip : Chip) (r r' : Facts) → r ≡ facts chip → r' ≡ facts chip → r ≡ r'
@@ -113,7 +110,7 @@ sets_is_taken_only set r r' = value_only
 pub slot_empty_only : (r r' : Slot) → r ≡ removed → r' ≡ removed → r ≡ r'
 slot_empty_only r r' = value_only
 
-pub slot_of_only : (h : Holds) (on : Bool) (type page : ℕ) (o : Bool) (set left n : ℕ) (c : Bool) (r r' : Slot) → r ≡ slotted h on type page o set left n c
+pub slot_of_only : (h : Option Chip) (on : Bool) (type page : ℕ) (o : Bool) (set left n : ℕ) (c : Bool) (r r' : Slot) → r ≡ slotted h on type page o set left n c
     → r' ≡ slotted h on type page o set left n c → r ≡ r'
 slot_of_only h on type page o set left n c r r' = value_only
 
@@ -158,7 +155,7 @@ module _ (s : Slot) where
   slot_own_type_only r r' = value_only
 
 -- ---- counts
-module _ (h : Holds) (image : List ℕ) where
+module _ (h : Option Chip) (image : List ℕ) where
   pub counts_tries_of_only : (r r' : ℕ) → r ≡ tries_of h image → r' ≡ tries_of h image → r ≡ r'
   counts_tries_of_only r r' = value_only
 
@@ -177,14 +174,14 @@ module _ (s : Slot) (image : List ℕ) where
 pub frame_refusal_number_only : (f : Refusal) (r r' : ℕ) → (r ≡ number_of f) × (r ≤ 5) → (r' ≡ number_of f) × (r' ≤ 5) → r ≡ r'
 frame_refusal_number_only f r r' p q = value_only p.0 q.0
 
-pub frame_verdict_number_only : (v : Verdict) (r r' : ℕ) → (r ≡ number v) × (r ≤ 5) → (r' ≡ number v) × (r' ≤ 5) → r ≡ r'
+pub frame_verdict_number_only : (v : Result ℕ Refusal) (r r' : ℕ) → (r ≡ number v) × (r ≤ 5) → (r' ≡ number v) × (r' ≤ 5) → r ≡ r'
 frame_verdict_number_only v r r' p q = value_only p.0 q.0
 
-pub frame_verdict_len_only : (v : Verdict) (r r' : ℕ) → r ≡ answer_length v → r' ≡ answer_length v → r ≡ r'
+pub frame_verdict_len_only : (v : Result ℕ Refusal) (r r' : ℕ) → r ≡ answer_length v → r' ≡ answer_length v → r ≡ r'
 frame_verdict_len_only v r r' = value_only
 
 -- ---- reader
-pub reader_front_only : (m : List ℕ) (room : ℕ) (r r' : Meant) → r ≡ front_of m room → r' ≡ front_of m room → r ≡ r'
+pub reader_front_only : (m : List ℕ) (room : ℕ) (r r' : Result ℕ Refusal) → r ≡ front_of m room → r' ≡ front_of m room → r ≡ r'
 reader_front_only m room r r' = value_only
 
 pub reader_message_only : (s : Slot) (image m was : List ℕ) (r r' : Reply) (left left' holds holds' : List ℕ)
@@ -200,7 +197,7 @@ pub reader_remove_only : (r r' : Slot) → r ≡ removed → r' ≡ removed → 
 reader_remove_only r r' = value_only
 
 -- ---- record
-pub record_read_record_only : (raw : List ℕ) (r r' : Reading) → r ≡ slot_of raw → r' ≡ slot_of raw → r ≡ r'
+pub record_read_record_only : (raw : List ℕ) (r r' : Result Slot Flaw) → r ≡ slot_of raw → r' ≡ slot_of raw → r ≡ r'
 record_read_record_only raw r r' = value_only
 
 pub record_write_record_only : (s : Slot) (was left left' : List ℕ) → left ≡ (length was is 32 ⇒ raw_of s ⁏ was) → left' ≡ (length was is 32 ⇒ raw_of s ⁏ was) → left ≡ left'
@@ -208,7 +205,7 @@ record_write_record_only s was left left' = value_only
 
 -- ---- calls, and those for C in card_reader
 module _ (raw image m was : List ℕ) where
-  pub calls_message_only : (v v' : Verdict) (left left' next next' holds holds' : List ℕ)
+  pub calls_message_only : (v v' : Result ℕ Refusal) (left left' next next' holds holds' : List ℕ)
       → RawGives (raw_exchange raw image m (length was)) v left next was holds → RawGives (raw_exchange raw image m (length was)) v' left' next' was holds'
       → (v ≡ v') × (left ≡ left') × (next ≡ next') × (holds ≡ holds')
   calls_message_only v v' left left' next next' holds holds' = raw_gives_only
@@ -219,7 +216,7 @@ module _ (raw image m was : List ℕ) where
   card_reader_message_only n n' left left' next next' holds holds' = returns_only
 
 module _ (raw : List ℕ) (kind : ℕ) (image : List ℕ) where
-  pub calls_insert_only : (v v' : Verdict) (left left' : List ℕ)
+  pub calls_insert_only : (v v' : Result ℕ Refusal) (left left' : List ℕ)
       → RawGives (raw_insertion raw kind image) v left image [] [] → RawGives (raw_insertion raw kind image) v' left' image [] [] → (v ≡ v') × (left ≡ left')
   calls_insert_only v v' left left' g g' = let p = raw_gives_only g g' in (p.0, p.1)
 
@@ -228,7 +225,7 @@ module _ (raw : List ℕ) (kind : ℕ) (image : List ℕ) where
   card_reader_insert_only n n' left left' g g' = let p = returns_only g g' in (p.0, p.1)
 
 module _ (raw : List ℕ) where
-  pub calls_remove_only : (v v' : Verdict) (left left' : List ℕ)
+  pub calls_remove_only : (v v' : Result ℕ Refusal) (left left' : List ℕ)
       → RawGives (raw_removal raw) v left [] [] [] → RawGives (raw_removal raw) v' left' [] [] [] → (v ≡ v') × (left ≡ left')
   calls_remove_only v v' left left' g g' = let p = raw_gives_only g g' in (p.0, p.1)
 

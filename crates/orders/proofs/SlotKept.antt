@@ -8,6 +8,7 @@ use native.Mathlib.Omega.{arith}
 use lib.ListN.{length}
 use lib.Dec.{leb}
 use borrow.Author.Tests.{eq-eqb, eqb-false, leb-true}
+use Rattle.std.specs.Prelude.{Option, Some}
 use Rattle.words.specs.Choice.{◌and◌, ◌or◌, ◌is◌}
 use Rattle.words.specs.Bytes.{byte}
 use Rattle.words.proofs.Choices.{either, alike, and_true, both}
@@ -16,8 +17,6 @@ use Rattle.chips.specs.declared.Facts.{Facts}
 use Rattle.chips.specs.Kinds.{facts}
 use Rattle.chips.proofs.KindLaws.{Coded, coded}
 use Rattle.card.proofs.ImageLaws.{IsCard}
-use Rattle.slot.specs.declared.Holds.{Holds}
-use Rattle.slot.specs.declared.Holds.TheVariants.{Card}
 use Rattle.slot.specs.declared.Slot.{Slot}
 use Rattle.slot.specs.Slots.{occupied, own_type, selecting, paged, open_as, tries_as, protected_as}
 use Rattle.counts.specs.Counts.{tries_in, count_in, tries_of, protected_of, Counted}
@@ -74,7 +73,7 @@ page_sized v e = go v (leb-true _ _ (and_true _ _ e).0) (leb-true _ _ (and_true 
 
 -- whether a counter is full, and how many tries it has, is told by its byte alone, and a card without a code has none
 module _ (chip : Chip) (image image' : List ℕ) (same : (facts chip).coded ≡ true → byte image' (facts chip).counter ≡ byte image (facts chip).counter) where
-  full_same : full_code (Card chip) image' ≡ full_code (Card chip) image
+  full_same : full_code (Some chip) image' ≡ full_code (Some chip) image
   unfolding ◌and◌
   full_same = go (facts chip).coded same
     where
@@ -83,16 +82,16 @@ module _ (chip : Chip) (image image' : List ℕ) (same : (facts chip).coded ≡ 
       go true h = ap (λ (n : ℕ). n is (facts chip).full) (h refl)
       go false h = refl
 
-  tries_same : tries_of (Card chip) image' ≡ tries_of (Card chip) image
+  tries_same : tries_of (Some chip) image' ≡ tries_of (Some chip) image
   tries_same = alike (facts chip).coded (λ e. ap tries (same e)) (λ _. refl)
 
-module _ (chip : Chip) (s : Slot) (image d : List ℕ) (holds : s.holds ≡ Card chip) (on : s.active ≡ true) (card : IsCard (facts chip) image) (r : Sound s image) where
+module _ (chip : Chip) (s : Slot) (image d : List ℕ) (holds : s.holds ≡ Some chip) (on : s.active ≡ true) (card : IsCard (facts chip) image) (r : Sound s image) where
   abbrev After : Order → Type 0
   After o = Sound (slot_by (facts chip) s image (body d) o) (image_by (facts chip) s image (body d) o)
 
   -- an image of this length has the number of protected bytes that the card has
   counts_of : (im : List ℕ) → length im ≡ length image → protected_of s.holds im ≡ count_in (facts chip) im
-  counts_of im e = ap (λ (x : Holds). protected_of x im) holds ∙ protected_card chip im (e ∙ card.long)
+  counts_of im e = ap (λ (x : Option Chip). protected_of x im) holds ∙ protected_card chip im (e ∙ card.long)
 
   -- a changed image, and the number of protected bytes that it has then
   moved : (o : Order) (n : ℕ) → Fit (facts chip) (body d) o → presents o ≡ false → n ≡ count_in (facts chip) (image_by (facts chip) s image (body d) o)
@@ -102,8 +101,8 @@ module _ (chip : Chip) (s : Slot) (image d : List ℕ) (holds : s.holds ≡ Card
       let same : (facts chip).coded ≡ true → byte im (facts chip).counter ≡ byte image (facts chip).counter =
       λ e. counter_kept (facts chip) (coded chip e) s image (body d) o h ne in
       image_sound s image im n
-      (ap (λ (x : Holds). full_code x im) holds ∙ full_same chip image im same ∙ sym (ap (λ (x : Holds). full_code x image) holds))
-      (ap (λ (x : Holds). tries_of x im) holds ∙ tries_same chip image im same ∙ sym (ap (λ (x : Holds). tries_of x image) holds))
+      (ap (λ (x : Option Chip). full_code x im) holds ∙ full_same chip image im same ∙ sym (ap (λ (x : Option Chip). full_code x image) holds))
+      (ap (λ (x : Option Chip). tries_of x im) holds ∙ tries_same chip image im same ∙ sym (ap (λ (x : Option Chip). tries_of x image) holds))
       (counted ∙ sym (counts_of im (length_image_by (facts chip) s image (body d) o)))
       r
 
@@ -126,12 +125,12 @@ module _ (chip : Chip) (s : Slot) (image d : List ℕ) (holds : s.holds ≡ Card
       let im : List ℕ = after_code (facts chip) image (body d) in
       let counts : Counted (tries_as (tries_in (facts chip) im) s) im =
       record {
-        tries = sym (ap (λ (x : Holds). tries_of x im) holds ∙ tries_card chip im e);
+        tries = sym (ap (λ (x : Option Chip). tries_of x im) holds ∙ tries_card chip im e);
         protected = had ∙ sym (count_presented chip s image (body d)) ∙ sym (counts_of im (length_image_by (facts chip) s image (body d) Order.Present));
       } in
       either (λ (x : Slot). Sound x im) (right_code (facts chip) image (body d))
       (λ yes. opened_sound s image on r im _ counts
-      (ap (λ (x : Holds). full_code x im) holds
+      (ap (λ (x : Option Chip). full_code x im) holds
       ∙ both e (eq-eqb _ _ (accepts_full (facts chip).counter (facts chip).full (facts chip).code (facts chip).digits image (body d) (omega (arith, card.long, c.inside)) yes)))
       (chosen t))
       (λ no. closed_sound s image on r im _ counts)

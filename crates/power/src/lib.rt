@@ -13,7 +13,7 @@ ghost use Rattle.frame.specs.Exchange.{reset, reply, Gives};
 use chips::Chip;
 use faults::{fault_of, is_clear};
 use frame::{Reply, seal, seal_done};
-use slot::{Holds, Slot};
+use slot::Slot;
 use words::put_two;
 
 // The answer to reset, into the lent tail of the answer buffer.
@@ -39,8 +39,7 @@ pub fn power_on(slot: Slot, image: &[u8], msg: &[u8], answer: &mut [u8]) -> Repl
     if !is_clear(fault) {
         return seal(0x80, fault, 0, slot, msg, answer);
     }
-    let holds = slot.holds;
-    let Holds::Card(chip) = holds else {
+    let Some(chip) = slot.holds else {
         return seal(0x80, fault, 0, slot, msg, answer);
     };
     let len = answer_to_reset(chip, image, &mut answer[10..]);

@@ -6,13 +6,13 @@ use mathlib.Core.List.{List, [], ◌∷◌}
 use native.Mathlib.Omega.{arith}
 use lib.Dec.{eqb}
 use borrow.Author.Tests.{eqb-true, eqb-false}
+use Rattle.std.specs.Prelude.{Some}
 use Rattle.words.specs.Choice.{◌or◌}
 use Rattle.words.proofs.Choices.{first, rest}
 use Rattle.codes.specs.Counters.{tries}
 use Rattle.chips.specs.declared.Chip.{Chip}
 use Rattle.chips.specs.declared.Facts.{Facts}
 use Rattle.chips.specs.Kinds.{facts}
-use Rattle.slot.specs.declared.Holds.TheVariants.{Card}
 use Rattle.slot.specs.declared.Slot.{Slot}
 use Rattle.frame.specs.Exchange.{Outcome, insertion}
 use Rattle.reader.specs.Runs.{Sent, sending, run}
@@ -27,7 +27,7 @@ module _ (chip : Chip) (c : (facts chip).coded ≡ true) where
   f = facts chip
 
   -- one message before a run of which the sentence holds
-  one_more : (s : Slot) (image : List ℕ) (m : Sent) (ms : List Sent) (now : List ℕ) → s.holds ≡ Card chip
+  one_more : (s : Slot) (image : List ℕ) (m : Sent) (ms : List Sent) (now : List ℕ) → s.holds ≡ Some chip
       → Sentence f (sending s image m).slot (sending s image m).image ms now → Sentence f s image (m ∷ ms) now
   unfolding run history renewed wrongs ◌or◌
   one_more s image m ms now holds (since_right before n later split event met renewing left) =
@@ -64,7 +64,7 @@ module _ (chip : Chip) (c : (facts chip).coded ≡ true) where
       go right h = met h (eqb t 0) refl
 
   -- from whatever slot and image the card is in
-  pub sentence : (s : Slot) (image : List ℕ) (ms : List Sent) → s.holds ≡ Card chip → Sentence f s image ms (run s image ms).image
+  pub sentence : (s : Slot) (image : List ℕ) (ms : List Sent) → s.holds ≡ Some chip → Sentence f s image ms (run s image ms).image
   unfolding run history renewed wrongs
   sentence s image [] holds = since_it_came refl (omega arith)
   sentence s image (m ∷ ms) holds =

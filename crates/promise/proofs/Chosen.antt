@@ -9,17 +9,15 @@ use lib.ListN.{length, take, drop}
 use lib.Dec.{leb}
 use lib.IntN.{pos}
 use borrow.Author.Tests.{leb-true, ne_eqb}
+use Rattle.std.specs.Prelude.{Option, Some}
 use Rattle.words.specs.Choice.{◌⇒◌⁏◌, ◌and◌, ◌or◌, ◌means◌, ◌is◌, ◌isnt◌}
 use Rattle.words.specs.Bytes.{byte, low_first}
 use Rattle.words.specs.Bounds.{least_room}
 use Rattle.words.proofs.Choices.{either, first, rest, and_true, and_fails, and_holds, means_true, same_choice, never, nested, or_end}
 use Rattle.chips.specs.declared.Chip.{Chip}
-use Rattle.chips.specs.declared.Known.TheVariants.{Is}
 use Rattle.chips.specs.declared.Facts.{Facts}
 use Rattle.chips.specs.Kinds.{facts, chip_of}
 use Rattle.chips.proofs.Each.{all_of, each}
-use Rattle.slot.specs.declared.Holds.{Holds}
-use Rattle.slot.specs.declared.Holds.TheVariants.{Card}
 use Rattle.slot.specs.declared.Slot.{Slot}
 use Rattle.slot.specs.Slots.{page_for, page_after, removed}
 use Rattle.record.specs.Raw.{raw_of}
@@ -76,7 +74,7 @@ order_moves f s image b (Order.Protect at) = record { page = refl; flag = refl }
 order_moves f s image b Order.Present = either (Moved f.selects s none) _ (λ _. record { page = refl; flag = refl }) (λ _. record { page = refl; flag = refl })
 order_moves f s image b Order.Change = record { page = refl; flag = refl }
 
-module _ (chip : Chip) (s : Slot) (image : List ℕ) (m : Sent) (holds : s.holds ≡ Card chip) where
+module _ (chip : Chip) (s : Slot) (image : List ℕ) (m : Sent) (holds : s.holds ≡ Some chip) where
   abbrev f : Facts
   f = facts chip
 
@@ -86,7 +84,7 @@ module _ (chip : Chip) (s : Slot) (image : List ℕ) (m : Sent) (holds : s.holds
   abbrev turn : Request → Turn
   turn r = transfers r ⇒ turn_by (order f s d) ⁏ none
 
-  deed_moves : (r : Request) → Moved f.selects s (turn r) (deed r (Card chip) s image m.message).slot
+  deed_moves : (r : Request) → Moved f.selects s (turn r) (deed r (Some chip) s image m.message).slot
   unfolding deed commanded performed ◌⇒◌⁏◌
   deed_moves SetParameters = record { page = refl; flag = refl }
   deed_moves PowerOn = record { page = refl; flag = refl }
@@ -107,9 +105,9 @@ module _ (chip : Chip) (s : Slot) (image : List ℕ) (m : Sent) (holds : s.holds
   came_moves (down r e) = unheard e
   came_moves (failed p e) = unheard e
   came_moves (obeyed e) =
-      let now : Holds → Slot = λ h. (deed (requested m) h s image m.message).slot in
+      let now : Option Chip → Slot = λ h. (deed (requested m) h s image m.message).slot in
       subst⁻¹ (λ (b : Bool). Moved f.selects s (b ⇒ turn_by (order f s d) ⁏ none) (now s.holds)) (sym (and_holds e refl))
-      (subst⁻¹ (λ (h : Holds). Moved f.selects s (turn (requested m)) (now h)) holds (deed_moves (requested m)))
+      (subst⁻¹ (λ (h : Option Chip). Moved f.selects s (turn (requested m)) (now h)) holds (deed_moves (requested m)))
 
   message_moves : Moved f.selects s (turn_of f s image m) (sending s image m).slot
   message_moves = came_moves (came s image m)
@@ -147,7 +145,7 @@ module _ (chip : Chip) where
   abbrev g : Facts
   g = facts chip
 
-  run_page : (s : Slot) (image : List ℕ) (ms : List Sent) → s.holds ≡ Card chip → (run s image ms).slot.page ≡ left_by g.selects s.chosen s.page (turns g s image ms)
+  run_page : (s : Slot) (image : List ℕ) (ms : List Sent) → s.holds ≡ Some chip → (run s image ms).slot.page ≡ left_by g.selects s.chosen s.page (turns g s image ms)
   unfolding run turns last_named selected
   run_page s image [] h = sym (never (not s.chosen) (page_for g.selects s.page) s.page)
   run_page s image (m ∷ ms) h =
@@ -158,7 +156,7 @@ module _ (chip : Chip) where
       ∙ ap₂ (λ (c : Bool) (p : ℕ). left_by g.selects c p ts) moved.flag moved.page
       ∙ sym (left_step g.selects s (turn_of g s image m) ts)
 
-  run_flag : (s : Slot) (image : List ℕ) (ms : List Sent) → s.holds ≡ Card chip → (run s image ms).slot.chosen ≡ (s.chosen or named (turns g s image ms))
+  run_flag : (s : Slot) (image : List ℕ) (ms : List Sent) → s.holds ≡ Some chip → (run s image ms).slot.chosen ≡ (s.chosen or named (turns g s image ms))
   unfolding run turns named
   run_flag s image [] h = sym (or_end s.chosen)
   run_flag s image (m ∷ ms) h =
@@ -178,7 +176,7 @@ module _ (chip : Chip) where
   unfolding ◌and◌
   unnamed_left ts = ap (λ (n : ℕ). not false and selected ts ⇒ n ⁏ 8) for_new ∙ nested (g.selects is 2) (selected ts) 32 8
 
-  module _ (s : Slot) (image : List ℕ) (holds : s.holds ≡ Card chip) (new : s.page ≡ 8) (unset : s.chosen ≡ false) where
+  module _ (s : Slot) (image : List ℕ) (holds : s.holds ≡ Some chip) (new : s.page ≡ 8) (unset : s.chosen ≡ false) where
     run_paging : (ms : List Sent) → Paging g s image ms (run s image ms).slot.page (run s image ms).slot.chosen
     unfolding ◌or◌
     run_paging ms =
@@ -193,7 +191,7 @@ module _ (chip : Chip) where
 
   -- ---- from the insertion on
   -- a card of any kind just inserted and left in: page and flag after any run of messages
-  pub page_from : (s : Slot) (kind : ℕ) (image : List ℕ) → chip_of kind ≡ Is chip → (insertion s kind image).number ≡ 0 → (ms : List Sent)
+  pub page_from : (s : Slot) (kind : ℕ) (image : List ℕ) → chip_of kind ≡ Some chip → (insertion s kind image).number ≡ 0 → (ms : List Sent)
       → let put = insertion s kind image in Paging g put.slot put.image ms (run_from s kind image ms).slot.page (run_from s kind image ms).slot.chosen
   page_from s kind image known e =
       let put = insertion s kind image in
@@ -201,7 +199,7 @@ module _ (chip : Chip) where
       run_paging put.slot put.image (ap (λ (t : Slot). t.holds) q) (ap (λ (t : Slot). t.page) q) (ap (λ (t : Slot). t.chosen) q)
 
   -- so by calls: the card was put in by `card_reader_insert`, which returned 0; of bytes 3 and 16 of the record
-  pub calls_page_from : (kind : ℕ) (r image : List ℕ) → chip_of kind ≡ Is chip → {left : List ℕ} → Returns (raw_insertion r kind image) (pos 0) left image [] []
+  pub calls_page_from : (kind : ℕ) (r image : List ℕ) → chip_of kind ≡ Some chip → {left : List ℕ} → Returns (raw_insertion r kind image) (pos 0) left image [] []
       → {ms : List Sent} {r' image' : List ℕ} → Called left image ms r' image'
       → let put = insertion removed kind image in Paging g put.slot put.image ms (page_shown r') (chosen_shown r')
   unfolding raw_of low_first
@@ -214,7 +212,7 @@ module _ (chip : Chip) where
       (subst⁻¹ (Paging g put.slot put.image ms now.page) (flag_back now.chosen) (page_from removed kind image known p.0 ms))
 
   -- and by records: it was put in by `sitting::perform` with an insert record, which printed 0
-  pub sittings_page_from : (h : Held) (had b : List ℕ) → chip_of (byte b 0) ≡ Is chip → {d : Done} {left was holds : List ℕ}
+  pub sittings_page_from : (h : Held) (had b : List ℕ) → chip_of (byte b 0) ≡ Some chip → {d : Done} {left was holds : List ℕ}
       → Leaves (outcome_of Mark.Insert b h.slot (take h.size had) least_room) d had left was holds → d.number ≡ 0 → {ms : List Sent} {held : Held} {later : List ℕ}
       → Sat d.held left ms held later
       → let put = insertion h.slot (byte b 0) (drop 1 b) in Paging g put.slot put.image ms held.slot.page held.slot.chosen
@@ -278,7 +276,7 @@ unnamed_fits chip ts some =
     either (λ (n : ℕ). n ≤ f.page) (f.selects is 2 and selected ts) (λ e. large (and_true _ _ e).0) (λ _. eight)
 
 -- so a write to an I2C card of any size, just inserted, stores exactly the range that it names as long as no 01 has succeeded
-module _ (chip : Chip) (s : Slot) (kind : ℕ) (image : List ℕ) (known : chip_of kind ≡ Is chip) (e : (insertion s kind image).number ≡ 0) (ms : List Sent) (m : Sent) (at : ℕ) where
+module _ (chip : Chip) (s : Slot) (kind : ℕ) (image : List ℕ) (known : chip_of kind ≡ Some chip) (e : (insertion s kind image).number ≡ 0) (ms : List Sent) (m : Sent) (at : ℕ) where
   abbrev put : Outcome
   put = insertion s kind image
 
@@ -290,5 +288,5 @@ module _ (chip : Chip) (s : Slot) (kind : ℕ) (image : List ℕ) (known : chip_
   unnamed_range n w some =
       let ts : List Turn = turns (facts chip) put.slot put.image ms in
       let page : now.slot.page ≡ unnamed (facts chip) ts = page_unnamed (page_from chip s kind image known e ms) n in
-      let holds : now.slot.holds ≡ Card chip = run_holds put.slot put.image ms ∙ ap (λ (t : Slot). t.holds) (put_in_slot chip s kind image known e) in
+      let holds : now.slot.holds ≡ Some chip = run_holds put.slot put.image ms ∙ ap (λ (t : Slot). t.holds) (put_in_slot chip s kind image known e) in
       message_range chip now.slot now.image m at holds w some (subst⁻¹ (λ (p : ℕ). p ≤ (facts chip).page) page (unnamed_fits chip ts some))

@@ -5,6 +5,7 @@ use mathlib.Core.Bool.{Bool, true, false}
 use mathlib.Core.List.{List, [], ◌∷◌}
 use mathlib.Core.Logic.{◌≢◌}
 use native.Mathlib.Omega.{arith}
+use Rattle.std.specs.Prelude.{Some}
 use Rattle.words.specs.Bytes.{byte, same}
 use Rattle.words.proofs.Choices.{either, rest, and_true, and_fails, and_holds, both, no_test}
 use Rattle.codes.specs.Counters.{tries}
@@ -14,7 +15,6 @@ use Rattle.chips.specs.declared.Chip.{Chip}
 use Rattle.chips.specs.declared.Facts.{Facts}
 use Rattle.chips.specs.Kinds.{facts}
 use Rattle.chips.proofs.KindLaws.{coded}
-use Rattle.slot.specs.declared.Holds.TheVariants.{Card}
 use Rattle.slot.specs.declared.Slot.{Slot}
 use Rattle.steps.specs.declared.Status.{Status}
 use Rattle.steps.specs.declared.Order.{Order}
@@ -39,7 +39,7 @@ fault_again : (r : Request) (s s' : Slot) (m : List ℕ) → ready r s' ≡ read
 unfolding fault_of
 fault_again r s s' m e = cc
 
-module _ (chip : Chip) (c : (facts chip).coded ≡ true) (s : Slot) (image : List ℕ) (m : Sent) (holds : s.holds ≡ Card chip) where
+module _ (chip : Chip) (c : (facts chip).coded ≡ true) (s : Slot) (image : List ℕ) (m : Sent) (holds : s.holds ≡ Some chip) where
   abbrev f : Facts
   f = facts chip
 

@@ -10,12 +10,12 @@ use lib.Seq.{take-suc, get_or-drop}
 use lib.IntN.{pos}
 use borrow.Author.Tests.{eqb-true, eqb-false, not-true, not-false}
 use mathlib.Core.Logic.{inl}
+use Rattle.std.specs.Prelude.{Option, Some}
 use Rattle.words.specs.Choice.{◌⇒◌⁏◌, ◌is◌}
 use Rattle.words.specs.Bytes.{byte, low_first}
 use Rattle.words.specs.Bounds.{least_room}
 use Rattle.words.proofs.Choices.{either, rest, and_fails, and_holds}
 use Rattle.chips.specs.declared.Chip.{Chip}
-use Rattle.chips.specs.declared.Known.TheVariants.{Is}
 use Rattle.chips.specs.declared.Facts.{Facts}
 use Rattle.chips.specs.Kinds.{facts, chip_of}
 use Rattle.chips.proofs.KindLaws.{laid}
@@ -23,8 +23,6 @@ use Rattle.bits.specs.Bits.{bit_of, zero_bits, zeros_of, protected_count, protec
 use Rattle.bits.proofs.ProtectionLaws.{protected_covered, length_protecting, byte_protect_equal}
 use Rattle.bits.proofs.BitLaws.{bit_half, bit_protecting, protected_same}
 use Rattle.bits.proofs.CountLaws.{count_protecting}
-use Rattle.slot.specs.declared.Holds.{Holds}
-use Rattle.slot.specs.declared.Holds.TheVariants.{Card}
 use Rattle.slot.specs.declared.Slot.{Slot}
 use Rattle.slot.specs.Slots.{removed}
 use Rattle.counts.specs.Counts.{count_in, tries_of, protected_of, Counted}
@@ -168,7 +166,7 @@ module _ (chip : Chip) where
       omega (arith, protect_adds image' (k + 1) b (omega arith) (kept ∙ long), one_more image k v (omega arith) long, same)
 
 -- ---- one message
-module _ (chip : Chip) (s : Slot) (image : List ℕ) (holds : s.holds ≡ Card chip) where
+module _ (chip : Chip) (s : Slot) (image : List ℕ) (holds : s.holds ≡ Some chip) where
   abbrev g : Facts
   g = facts chip
 
@@ -190,7 +188,7 @@ module _ (chip : Chip) (s : Slot) (image : List ℕ) (holds : s.holds ≡ Card c
     d = apdu m.message
 
     deed_adds : (r : Request) → IsCard g image
-        → count_in g (deed r (Card chip) s image m.message).image ≡ count_in g image + (transfers r ⇒ added_by g image (body d) (order g s d) ⁏ 0)
+        → count_in g (deed r (Some chip) s image m.message).image ≡ count_in g image + (transfers r ⇒ added_by g image (body d) (order g s d) ⁏ 0)
     unfolding deed commanded performed ◌⇒◌⁏◌
     deed_adds SetParameters c = omega arith
     deed_adds PowerOn c = omega arith
@@ -211,7 +209,7 @@ module _ (chip : Chip) (s : Slot) (image : List ℕ) (holds : s.holds ≡ Card c
     came_adds (down r h) = unheard h
     came_adds (failed p h) = unheard h
     came_adds (obeyed h) =
-        subst⁻¹ (λ (x : Holds). count_in g (deed (requested m) x s image m.message).image ≡ count_in g image + (transfers (requested m) ⇒ added_by g image (body d) (order g s d) ⁏ 0)) holds
+        subst⁻¹ (λ (x : Option Chip). count_in g (deed (requested m) x s image m.message).image ≡ count_in g image + (transfers (requested m) ⇒ added_by g image (body d) (order g s d) ⁏ 0)) holds
         (deed_adds (requested m) (proper_card chip s image holds (heard_proper s image m h)))
         ∙ ap (λ (b : Bool). count_in g image + (b ⇒ added_by g image (body d) (order g s d) ⁏ 0)) (and_holds h refl)
 
@@ -220,7 +218,7 @@ module _ (chip : Chip) (s : Slot) (image : List ℕ) (holds : s.holds ≡ Card c
     message_adds = came_adds (came s image m)
 
 -- ---- a run: from any slot with the card in it, any image and any messages
-pub run_adds : (chip : Chip) (s : Slot) (image : List ℕ) (ms : List Sent) → s.holds ≡ Card chip
+pub run_adds : (chip : Chip) (s : Slot) (image : List ℕ) (ms : List Sent) → s.holds ≡ Some chip
     → count_in (facts chip) (run s image ms).image ≡ count_in (facts chip) image + added_in (facts chip) s image ms
 unfolding run added_in
 run_adds chip s image [] h = omega arith
@@ -246,7 +244,7 @@ pub answered_counted : (s : Slot) (image m : List ℕ) (room : ℕ) → (exchang
 answered_counted s image m room e = proper_counted _ _ (answered_proper s image m room e)
 
 -- ---- what is shown after a run
-module _ (chip : Chip) (s : Slot) (image : List ℕ) (holds : s.holds ≡ Card chip) (p : Proper s image) where
+module _ (chip : Chip) (s : Slot) (image : List ℕ) (holds : s.holds ≡ Some chip) (p : Proper s image) where
   module _ (ms : List Sent) where
     abbrev u : Run
     u = run s image ms
@@ -254,7 +252,7 @@ module _ (chip : Chip) (s : Slot) (image : List ℕ) (holds : s.holds ≡ Card c
     now_proper : Proper u.slot u.image
     now_proper = run_proper s image ms p
 
-    now_holds : u.slot.holds ≡ Card chip
+    now_holds : u.slot.holds ≡ Some chip
     now_holds = run_holds s image ms ∙ holds
 
     now_counted : Counted u.slot u.image
@@ -263,11 +261,11 @@ module _ (chip : Chip) (s : Slot) (image : List ℕ) (holds : s.holds ≡ Card c
     pub run_shown : Shown (facts chip) s image ms u.slot.tries u.slot.protected
     run_shown = record {
       tries = λ c.
-          now_counted.tries ∙ ap (λ (h : Holds). tries_of h u.image) now_holds ∙ tries_card chip u.image c ∙ tries_left_lem chip c s image ms holds;
-      codeless = λ c. now_counted.tries ∙ ap (λ (h : Holds). tries_of h u.image) now_holds ∙ rest _ _ c;
+          now_counted.tries ∙ ap (λ (h : Option Chip). tries_of h u.image) now_holds ∙ tries_card chip u.image c ∙ tries_left_lem chip c s image ms holds;
+      codeless = λ c. now_counted.tries ∙ ap (λ (h : Option Chip). tries_of h u.image) now_holds ∙ rest _ _ c;
       protected =
           now_counted.protected
-          ∙ ap (λ (h : Holds). protected_of h u.image) now_holds
+          ∙ ap (λ (h : Option Chip). protected_of h u.image) now_holds
           ∙ protected_card chip u.image (proper_card chip u.slot u.image now_holds now_proper).long
           ∙ run_adds chip s image ms holds;
     }
@@ -291,14 +289,14 @@ module _ (chip : Chip) (s : Slot) (image : List ℕ) (holds : s.holds ≡ Card c
 
 -- ---- from the insertion on
 -- a card of any kind just inserted and left in: what the screen shows after any run of messages
-pub shown_from : (chip : Chip) (s : Slot) (kind : ℕ) (image : List ℕ) → chip_of kind ≡ Is chip → (insertion s kind image).number ≡ 0 → (ms : List Sent)
+pub shown_from : (chip : Chip) (s : Slot) (kind : ℕ) (image : List ℕ) → chip_of kind ≡ Some chip → (insertion s kind image).number ≡ 0 → (ms : List Sent)
     → let put = insertion s kind image in Shown (facts chip) put.slot put.image ms (run_from s kind image ms).slot.tries (run_from s kind image ms).slot.protected
 shown_from chip s kind image known e ms =
     let put = insertion s kind image in
     run_shown chip put.slot put.image (ap (λ (t : Slot). t.holds) (put_in_slot chip s kind image known e)) (insertion_proper s kind image e) ms
 
 -- so by calls: the card was put in by `card_reader_insert`, which returned 0
-pub calls_shown_from : (chip : Chip) (kind : ℕ) (r image : List ℕ) → chip_of kind ≡ Is chip → {left : List ℕ} → Returns (raw_insertion r kind image) (pos 0) left image [] []
+pub calls_shown_from : (chip : Chip) (kind : ℕ) (r image : List ℕ) → chip_of kind ≡ Some chip → {left : List ℕ} → Returns (raw_insertion r kind image) (pos 0) left image [] []
     → {ms : List Sent} {r' image' : List ℕ} → Called left image ms r' image'
     → let put = insertion removed kind image in Shown (facts chip) put.slot put.image ms (tries_shown r') (protected_shown r')
 calls_shown_from chip kind r image known returns calls =
@@ -308,7 +306,7 @@ calls_shown_from chip kind r image known returns calls =
     p.1 (sym (put_image chip removed kind image)) calls
 
 -- and by records: it was put in by `sitting::perform` with an insert record, which printed 0
-pub sittings_shown_from : (chip : Chip) (h : Held) (had b : List ℕ) → chip_of (byte b 0) ≡ Is chip → {d : Done} {left was holds : List ℕ}
+pub sittings_shown_from : (chip : Chip) (h : Held) (had b : List ℕ) → chip_of (byte b 0) ≡ Some chip → {d : Done} {left was holds : List ℕ}
     → Leaves (outcome_of Mark.Insert b h.slot (take h.size had) least_room) d had left was holds → d.number ≡ 0 → {ms : List Sent} {held : Held} {later : List ℕ}
     → Sat d.held left ms held later
     → let put = insertion h.slot (byte b 0) (drop 1 b) in Shown (facts chip) put.slot put.image ms held.slot.tries held.slot.protected

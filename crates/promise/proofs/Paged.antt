@@ -8,6 +8,7 @@ use native.Mathlib.Omega.{arith}
 use lib.ListN.{length, take, drop}
 use lib.IntN.{ℤ}
 use borrow.Author.Tests.{ne_eqb}
+use Rattle.std.specs.Prelude.{Some}
 use Rattle.words.specs.Bounds.{least_room}
 use Rattle.words.proofs.Choices.{first}
 use Rattle.records.specs.declared.Mark.{Mark}
@@ -15,7 +16,6 @@ use Rattle.chips.specs.declared.Chip.{Chip}
 use Rattle.chips.specs.declared.Facts.{Facts}
 use Rattle.chips.specs.Kinds.{facts}
 use Rattle.chips.proofs.KindLaws.{laid, whole_pages}
-use Rattle.slot.specs.declared.Holds.TheVariants.{Card}
 use Rattle.slot.specs.declared.Slot.{Slot}
 use Rattle.pages.specs.Pages.{page_write}
 use Rattle.pages.specs.Cuts.{Paged}
@@ -37,7 +37,7 @@ use Rattle.promise.proofs.Sequences.{call_image, sitting_image}
 use Rattle.promise.proofs.Stored.{write_does, write_card, write_inside}
 use Rattle.promise.proofs.Pages.{range_holds}
 
-module _ (chip : Chip) (s : Slot) (image : List ℕ) (m : Sent) (at : ℕ) (holds : s.holds ≡ Card chip) (w : Writes (facts chip) s image m at)
+module _ (chip : Chip) (s : Slot) (image : List ℕ) (m : Sent) (at : ℕ) (holds : s.holds ≡ Some chip) (w : Writes (facts chip) s image m at)
     (some : 0 < (facts chip).page) where
   abbrev f : Facts
   f = facts chip

@@ -3,6 +3,7 @@ use Prim.Native.Nat.{ℕ}
 use mathlib.Core.Path.{◌≡◌, refl, sym, ap, ap₂, ◌∙◌}
 use mathlib.Core.Bool.{true, false≢true}
 use mathlib.Core.List.{List, [], ◌∷◌}
+use Rattle.std.specs.Prelude.{Option, Some, None}
 use Rattle.words.specs.Choice.{◌⇒◌⁏◌}
 use Rattle.words.specs.Bytes.{AllBytes, byte, over}
 use Rattle.words.specs.Bounds.{least_room}
@@ -14,8 +15,6 @@ use Rattle.chips.specs.Kinds.{facts}
 use Rattle.chips.specs.declared.Chip.TheVariants.{Sle4442}
 use Rattle.sets.specs.Sets.{default_set, protocol_of, bytes_of, set_of}
 use Rattle.sets.proofs.SetLaws.{named_protocol, named_bytes}
-use Rattle.slot.specs.declared.Holds.{Holds}
-use Rattle.slot.specs.declared.Holds.TheVariants.{Empty, Card}
 use Rattle.slot.specs.declared.Slot.{Slot}
 use Rattle.slot.specs.Slots.{occupied, inserted, removed}
 use Rattle.steps.specs.Steps.{order, body}
@@ -42,19 +41,20 @@ use Rattle.calls.specs.Calls.{RawOutcome, raw_exchange, Returns}
 use Rattle.promise.specs.Sequences.{Called, Sat}
 use Rattle.promise.proofs.Sequences.{raw_exchange_is, called_run, sat_run}
 use Rattle.promise.specs.Parameters.{set_by, set_after, leaves_set, all_leave, tells_set}
+use Rattle.chips.specs.declared.Chip.{Chip}
 
 -- ---- which message changes them
-deed_set : (r : Request) (h : Holds) (s : Slot) (image m : List ℕ) → s.holds ≡ h → ready r s ≡ true → (deed r h s image m).slot.set ≡ set_by r m s.set
+deed_set : (r : Request) (h : Option Chip) (s : Slot) (image m : List ℕ) → s.holds ≡ h → ready r s ≡ true → (deed r h s image m).slot.set ≡ set_by r m s.set
 unfolding deed commanded performed
 deed_set SetParameters h s image m e on = refl
-deed_set PowerOn Empty s image m e on = absurd (false≢true (sym (ap occupied e) ∙ on))
-deed_set PowerOn (Card chip) s image m e on = refl
+deed_set PowerOn None s image m e on = absurd (false≢true (sym (ap occupied e) ∙ on))
+deed_set PowerOn (Some chip) s image m e on = refl
 deed_set PowerOff h s image m e on = refl
 deed_set SlotStatus h s image m e on = refl
 deed_set GetParameters h s image m e on = refl
 deed_set ResetParameters h s image m e on = refl
-deed_set Transfer Empty s image m e on = refl
-deed_set Transfer (Card chip) s image m e on = slot_by_set (facts chip) s image (body (apdu m)) (order (facts chip) s (apdu m))
+deed_set Transfer None s image m e on = refl
+deed_set Transfer (Some chip) s image m e on = slot_by_set (facts chip) s image (body (apdu m)) (order (facts chip) s (apdu m))
 deed_set Unsupported h s image m e on = refl
 
 module _ (s : Slot) (image : List ℕ) (m : Sent) where

@@ -5,14 +5,13 @@ use mathlib.Core.Path.{◌≡◌, refl, sym, ap, ◌∙◌, subst⁻¹}
 use mathlib.Core.Bool.{Bool, true, false}
 use mathlib.Core.List.{List, [], ◌∷◌}
 use lib.ListN.{take}
+use Rattle.std.specs.Prelude.{Option, Some}
 use Rattle.words.specs.Choice.{◌and◌, ◌or◌}
 use Rattle.words.specs.Bytes.{byte}
 use Rattle.words.proofs.Choices.{and_fails, and_holds, or_end, or_assoc, or_left}
 use Rattle.chips.specs.declared.Chip.{Chip}
 use Rattle.chips.specs.declared.Facts.{Facts}
 use Rattle.chips.specs.Kinds.{facts}
-use Rattle.slot.specs.declared.Holds.{Holds}
-use Rattle.slot.specs.declared.Holds.TheVariants.{Card}
 use Rattle.slot.specs.declared.Slot.{Slot}
 use Rattle.card.proofs.ImageLaws.{IsCard}
 use Rattle.record.specs.Raw.{raw_of}
@@ -31,7 +30,7 @@ use Rattle.promise.specs.Protected.{protected_in, protects, some_protects, Guard
 use Rattle.promise.proofs.Sequences.{called_run, sat_run}
 
 -- ---- one message
-module _ (chip : Chip) (k : ℕ) (s : Slot) (image : List ℕ) (m : Sent) (holds : s.holds ≡ Card chip) where
+module _ (chip : Chip) (k : ℕ) (s : Slot) (image : List ℕ) (m : Sent) (holds : s.holds ≡ Some chip) where
   abbrev f : Facts
   f = facts chip
 
@@ -39,7 +38,7 @@ module _ (chip : Chip) (k : ℕ) (s : Slot) (image : List ℕ) (m : Sent) (holds
   d = apdu m.message
 
   -- the value of a protected byte
-  deed_value : (r : Request) → IsCard f image → protected_in f image k ≡ true → byte (deed r (Card chip) s image m.message).image k ≡ byte image k
+  deed_value : (r : Request) → IsCard f image → protected_in f image k ≡ true → byte (deed r (Some chip) s image m.message).image k ≡ byte image k
   unfolding deed commanded performed
   deed_value SetParameters c e = refl
   deed_value PowerOn c e = refl
@@ -54,7 +53,7 @@ module _ (chip : Chip) (k : ℕ) (s : Slot) (image : List ℕ) (m : Sent) (holds
   came_value (down r h) e = refl
   came_value (failed p h) e = refl
   came_value (obeyed h) e =
-      subst⁻¹ (λ (x : Holds). byte (deed (requested m) x s image m.message).image k ≡ byte image k) holds
+      subst⁻¹ (λ (x : Option Chip). byte (deed (requested m) x s image m.message).image k ≡ byte image k) holds
       (deed_value (requested m) (proper_card chip s image holds (heard_proper s image m h)) e)
 
   pub message_value : protected_in f image k ≡ true → byte (sending s image m).image k ≡ byte image k
@@ -62,7 +61,7 @@ module _ (chip : Chip) (k : ℕ) (s : Slot) (image : List ℕ) (m : Sent) (holds
 
   -- whether it is protected
   deed_protects : (r : Request) → IsCard f image
-      → protected_in f (deed r (Card chip) s image m.message).image k ≡ (protected_in f image k or transfers r and carries_by image (body d) k (order f s d))
+      → protected_in f (deed r (Some chip) s image m.message).image k ≡ (protected_in f image k or transfers r and carries_by image (body d) k (order f s d))
   unfolding deed commanded performed ◌and◌
   deed_protects SetParameters c = sym (or_end _)
   deed_protects PowerOn c = sym (or_end _)
@@ -84,7 +83,7 @@ module _ (chip : Chip) (k : ℕ) (s : Slot) (image : List ℕ) (m : Sent) (holds
   came_protects (failed p h) = unheard h
   came_protects (obeyed h) =
       let rest = transfers (requested m) and carries_by image (body d) k (order f s d) in
-      subst⁻¹ (λ (x : Holds). protected_in f (deed (requested m) x s image m.message).image k ≡ (protected_in f image k or rest)) holds
+      subst⁻¹ (λ (x : Option Chip). protected_in f (deed (requested m) x s image m.message).image k ≡ (protected_in f image k or rest)) holds
       (deed_protects (requested m) (proper_card chip s image holds (heard_proper s image m h)))
       ∙ ap (λ (b : Bool). protected_in f image k or b) (and_holds h refl)
 
@@ -94,7 +93,7 @@ module _ (chip : Chip) (k : ℕ) (s : Slot) (image : List ℕ) (m : Sent) (holds
 -- ---- a run: from any slot with the card in it, any image and any messages
 module _ (chip : Chip) (k : ℕ) where
   -- "a byte becomes protected by a D1 that carries its value and by nothing else"
-  pub protected_after : (s : Slot) (image : List ℕ) (ms : List Sent) → s.holds ≡ Card chip
+  pub protected_after : (s : Slot) (image : List ℕ) (ms : List Sent) → s.holds ≡ Some chip
       → protected_in (facts chip) (run s image ms).image k ≡ (protected_in (facts chip) image k or some_protects (facts chip) s image ms k)
   unfolding run some_protects
   protected_after s image [] h = sym (or_end _)
@@ -105,12 +104,12 @@ module _ (chip : Chip) (k : ℕ) where
       ∙ or_assoc _ _ _
 
   -- "stays protected"
-  pub protected_stays : (s : Slot) (image : List ℕ) (ms : List Sent) → s.holds ≡ Card chip → protected_in (facts chip) image k ≡ true
+  pub protected_stays : (s : Slot) (image : List ℕ) (ms : List Sent) → s.holds ≡ Some chip → protected_in (facts chip) image k ≡ true
       → protected_in (facts chip) (run s image ms).image k ≡ true
   protected_stays s image ms h e = protected_after s image ms h ∙ or_left _ e
 
   -- "keeps its value"
-  pub value_stays : (s : Slot) (image : List ℕ) (ms : List Sent) → s.holds ≡ Card chip → protected_in (facts chip) image k ≡ true
+  pub value_stays : (s : Slot) (image : List ℕ) (ms : List Sent) → s.holds ≡ Some chip → protected_in (facts chip) image k ≡ true
       → byte (run s image ms).image k ≡ byte image k
   unfolding run
   value_stays s image [] h e = refl
@@ -120,7 +119,7 @@ module _ (chip : Chip) (k : ℕ) where
       ∙ message_value chip k s image m h e
 
 -- ---- and so by calls of `card_reader_message`, and by `sitting::perform`
-module _ (chip : Chip) (k : ℕ) (s : Slot) (image : List ℕ) (h : s.holds ≡ Card chip) where
+module _ (chip : Chip) (k : ℕ) (s : Slot) (image : List ℕ) (h : s.holds ≡ Some chip) where
   pub run_guards : (ms : List Sent) → Guards (facts chip) s image ms k (run s image ms).image
   run_guards ms = record { value = value_stays chip k s image ms h; protected = protected_after chip k s image ms h }
 

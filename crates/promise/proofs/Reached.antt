@@ -3,6 +3,7 @@ use Prim.Native.Nat.{ℕ}
 use mathlib.Core.Path.{◌≡◌, refl, ap, ◌∙◌, subst⁻¹}
 use mathlib.Core.Bool.{Bool, true, false, false≢true}
 use mathlib.Core.List.{List}
+use Rattle.std.specs.Prelude.{Option, Some}
 use Rattle.words.specs.Choice.{◌⇒◌⁏◌}
 use Rattle.words.specs.Bytes.{byte}
 use Rattle.words.proofs.Choices.{first, rest, and_true, and_holds, no_test}
@@ -10,8 +11,6 @@ use Rattle.chips.specs.declared.Chip.{Chip}
 use Rattle.chips.specs.declared.Facts.{Facts}
 use Rattle.chips.specs.Kinds.{facts}
 use Rattle.chips.proofs.KindLaws.{coded}
-use Rattle.slot.specs.declared.Holds.{Holds}
-use Rattle.slot.specs.declared.Holds.TheVariants.{Card}
 use Rattle.slot.specs.declared.Slot.{Slot}
 use Rattle.steps.specs.declared.Order.{Order}
 use Rattle.steps.specs.Steps.{order, body, presents}
@@ -49,7 +48,7 @@ heard_does s image m e = go (came s image m)
     go (failed p h) = no_test e h
     go (obeyed h) = refl
 
-module _ (chip : Chip) (s : Slot) (image : List ℕ) (m : Sent) (holds : s.holds ≡ Card chip) where
+module _ (chip : Chip) (s : Slot) (image : List ℕ) (m : Sent) (holds : s.holds ≡ Some chip) where
   abbrev apart : List ℕ
   apart = apdu m.message
 
@@ -62,7 +61,7 @@ module _ (chip : Chip) (s : Slot) (image : List ℕ) (m : Sent) (holds : s.holds
       heard_does s image m h
       ∙ ap (λ (f : Fault). answered (requested m) m.message f (deed (requested m) s.holds s image m.message)) c
       ∙ ap (λ (r : Request). answered r m.message Fault.Clear (deed r s.holds s image m.message)) t
-      ∙ ap (λ (x : Holds). answered Transfer m.message Fault.Clear (deed Transfer x s image m.message)) holds
+      ∙ ap (λ (x : Option Chip). answered Transfer m.message Fault.Clear (deed Transfer x s image m.message)) holds
 
   -- a code that reaches the card is presented
   pub reached_does : reached (facts chip) s image m ≡ true
@@ -76,7 +75,7 @@ module _ (chip : Chip) (s : Slot) (image : List ℕ) (m : Sent) (holds : s.holds
 
   -- what no code reached the card by leaves the counter
   deed_keeps : (r : Request) → (facts chip).coded ≡ true → (transfers r ≡ true → presents (order (facts chip) s apart) ≡ false)
-      → byte (deed r (Card chip) s image m.message).image (facts chip).counter ≡ byte image (facts chip).counter
+      → byte (deed r (Some chip) s image m.message).image (facts chip).counter ≡ byte image (facts chip).counter
   unfolding deed commanded performed
   deed_keeps SetParameters c ne = refl
   deed_keeps PowerOn c ne = refl
@@ -97,7 +96,7 @@ module _ (chip : Chip) (s : Slot) (image : List ℕ) (m : Sent) (holds : s.holds
       go (down r h) = refl
       go (failed p h) = refl
       go (obeyed h) =
-          subst⁻¹ (λ (x : Holds). byte (deed (requested m) x s image m.message).image (facts chip).counter ≡ byte image (facts chip).counter) holds
+          subst⁻¹ (λ (x : Option Chip). byte (deed (requested m) x s image m.message).image (facts chip).counter ≡ byte image (facts chip).counter) holds
           (deed_keeps (requested m) c (λ t. and_holds h (and_holds t refl) ∙ e))
 
 -- ---- what a message was to the card

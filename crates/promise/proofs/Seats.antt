@@ -9,6 +9,7 @@ use native.Mathlib.Omega.{arith}
 use lib.ListN.{length, length-replicate}
 use lib.Dec.{leb, ltb}
 use borrow.Author.Tests.{ltb-true, ltb-false}
+use Rattle.std.specs.Prelude.{Some}
 use Rattle.words.specs.Bounds.{least_room}
 use Rattle.words.proofs.Choices.{either, rest, both}
 use Rattle.words.proofs.Lists.{blank_end}
@@ -19,7 +20,6 @@ use Rattle.chips.proofs.KindLaws.{laid, coded, zeroed, pages_bare}
 use Rattle.bits.proofs.CountLaws.{count_within}
 use Rattle.card.specs.Images.{is_card}
 use Rattle.card.proofs.ImageLaws.{plain_test}
-use Rattle.slot.specs.declared.Holds.TheVariants.{Card}
 use Rattle.slot.specs.declared.Slot.{Slot}
 use Rattle.counts.specs.Counts.{tries_of, protected_of}
 use Rattle.sound.specs.Sound.{page_size}
@@ -61,10 +61,10 @@ module _ (chip : Chip) (some : 0 < (facts chip).page) where
   seat_card = sym (plain_test chip image no_code long) ∙ blank_end image f.zeros (omega (arith, long, filled))
 
   -- ---- its counts are 0
-  no_tries : tries_of (Card chip) image ≡ 0
+  no_tries : tries_of (Some chip) image ≡ 0
   no_tries = rest _ _ no_code
 
-  none_protected : protected_of (Card chip) image ≡ 0
+  none_protected : protected_of (Some chip) image ≡ 0
   none_protected =
       either (λ (n : ℕ). n ≡ 0) _ (λ _. let few = count_within f.bits f.covered image in omega (arith, few, pages_bare chip some)) (λ _. refl)
 
@@ -80,7 +80,7 @@ module _ (chip : Chip) (some : 0 < (facts chip).page) where
       idle = λ h. absurd (true≢false h);
       own = inr refl;
       sure = λ h. absurd (false≢true h);
-      set = default_sound (Card chip);
+      set = default_sound (Some chip);
       counts = record { tries = sym no_tries; protected = sym none_protected };
     }
 

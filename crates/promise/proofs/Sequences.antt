@@ -8,21 +8,20 @@ use native.Mathlib.Omega.{arith}
 use lib.ListN.{length, take, drop, replicate, length-replicate}
 use lib.IntN.{ℤ, pos}
 use borrow.Author.Tests.{eq-eqb}
+use Rattle.std.specs.Prelude.{Result, Some, Ok, Err}
 use Rattle.words.specs.Choice.{◌isnt◌}
 use Rattle.words.specs.Bytes.{byte, over}
 use Rattle.words.specs.Bounds.{least_room}
 use Rattle.words.proofs.Choices.{past, first, rest}
 use Rattle.records.specs.declared.Mark.{Mark}
 use Rattle.chips.specs.declared.Chip.{Chip}
-use Rattle.chips.specs.declared.Known.TheVariants.{Is}
 use Rattle.chips.specs.Kinds.{facts, chip_of}
 use Rattle.slot.specs.declared.Slot.{Slot}
 use Rattle.slot.specs.Slots.{removed}
-use Rattle.record.specs.declared.Reading.{Reading}
+use Rattle.record.specs.declared.Flaw.{Flaw}
 use Rattle.record.specs.Raw.{raw_of}
 use Rattle.record.proofs.Records.{reads_back_lem}
 use Rattle.frame.specs.Exchange.{Outcome, served, exchange, insertion, reply, replied}
-use Rattle.reader.specs.declared.Meant.{Meant}
 use Rattle.reader.specs.Fronts.{front_of, fronted}
 use Rattle.reader.specs.Runs.{Sent, sending, run}
 use Rattle.reader.proofs.Fronting.{exchange_fronted}
@@ -38,6 +37,7 @@ use Rattle.promise.specs.Sequences.{sent_with, Called, hung, called, Sat, stood,
 use Rattle.promise.proofs.Zero.{zero_kept}
 use Rattle.promise.proofs.Cases.{sentence_holds}
 use Rattle.promise.proofs.Inserted.{put_image}
+use Rattle.frame.specs.declared.Refusal.{Refusal}
 
 -- ---- calls on a raw record
 -- what comes of a message on the record that was written from a slot is what comes of it on the slot, written
@@ -60,10 +60,10 @@ module _ (s : Slot) (image m : List ℕ) where
   unfolding raw_exchange raw_served
   raw_exchange_is room = go (front_of m room) ∙ ap written_out (sym (exchange_fronted s image m room))
     where
-      go : (x : Meant) → raw_fronted x (raw_of s) image m ≡ written_out (fronted x s image m)
-      go (Meant.Refused f) = refl
-      go (Meant.Slot n) =
-          ap (λ (x : Reading). raw_served x (raw_of s) image m) (reads_back_lem s)
+      go : (x : Result ℕ Refusal) → raw_fronted x (raw_of s) image m ≡ written_out (fronted x s image m)
+      go (Err f) = refl
+      go (Ok n) =
+          ap (λ (x : Result Slot Flaw). raw_served x (raw_of s) image m) (reads_back_lem s)
           ∙ ap (λ (r : List ℕ). record { number = (served s image m).number; answer = (served s image m).answer; raw = r; image = (served s image m).image }) served_keeps.keeps
 
 -- a sequence of calls is the run of its messages
@@ -182,7 +182,7 @@ module _ (h : Held) (had body : List ℕ) {d : Done} {left was holds : List ℕ}
 
 -- ---- the sentence, for both
 -- a code card put in by `card_reader_insert`, which returned 0
-module _ (chip : Chip) (coded : (facts chip).coded ≡ true) (kind : ℕ) (known : chip_of kind ≡ Is chip) (r image : List ℕ) {left : List ℕ}
+module _ (chip : Chip) (coded : (facts chip).coded ≡ true) (kind : ℕ) (known : chip_of kind ≡ Some chip) (r image : List ℕ) {left : List ℕ}
     (g : Returns (raw_insertion r kind image) (pos 0) left image [] []) where
   call_put : ((insertion removed kind image).number ≡ 0) × (left ≡ raw_of (insertion removed kind image).slot)
   call_put = call_inserts kind r image g
@@ -212,7 +212,7 @@ module _ (chip : Chip) (coded : (facts chip).coded ≡ true) (kind : ℕ) (known
       ∙ sym e.1
 
 -- a code card put in by `sitting::perform` with an insert record, which printed 0
-module _ (chip : Chip) (coded : (facts chip).coded ≡ true) (h : Held) (had body : List ℕ) (known : chip_of (byte body 0) ≡ Is chip) {d : Done} {left was holds : List ℕ}
+module _ (chip : Chip) (coded : (facts chip).coded ≡ true) (h : Held) (had body : List ℕ) (known : chip_of (byte body 0) ≡ Some chip) {d : Done} {left was holds : List ℕ}
     (g : Leaves (outcome_of Mark.Insert body h.slot (take h.size had) least_room) d had left was holds) (zero : d.number ≡ 0) where
   abbrev card : List ℕ
   card = drop 1 body

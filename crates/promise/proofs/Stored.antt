@@ -9,6 +9,7 @@ use native.Mathlib.Omega.{arith}
 use lib.ListN.{length, take}
 use lib.IntN.{ℤ}
 use borrow.Author.Tests.{eq-eqb, ne_eqb}
+use Rattle.std.specs.Prelude.{Some}
 use Rattle.words.specs.Choice.{◌⇒◌⁏◌, ◌and◌, ◌means◌, ◌is◌}
 use Rattle.words.specs.Bytes.{byte, over}
 use Rattle.words.specs.Bounds.{least_room}
@@ -18,7 +19,6 @@ use Rattle.chips.specs.declared.Chip.{Chip}
 use Rattle.chips.specs.declared.Facts.{Facts}
 use Rattle.chips.specs.Kinds.{facts}
 use Rattle.chips.proofs.KindLaws.{laid, bitted}
-use Rattle.slot.specs.declared.Holds.TheVariants.{Card}
 use Rattle.slot.specs.declared.Slot.{Slot}
 use Rattle.card.proofs.ImageLaws.{IsCard}
 use Rattle.record.specs.Raw.{raw_of}
@@ -65,7 +65,7 @@ ends_protected f image now k (v ∷ vs) h =
     next j = omega arith
 
 -- ---- one message
-module _ (chip : Chip) (s : Slot) (image : List ℕ) (m : Sent) (at : ℕ) (holds : s.holds ≡ Card chip) (w : Writes (facts chip) s image m at) where
+module _ (chip : Chip) (s : Slot) (image : List ℕ) (m : Sent) (at : ℕ) (holds : s.holds ≡ Some chip) (w : Writes (facts chip) s image m at) where
   abbrev f : Facts
   f = facts chip
 

@@ -4,11 +4,11 @@ use mathlib.Core.Path.{◌≡◌, refl, ap, ◌∙◌, subst⁻¹}
 use mathlib.Core.Bool.{true}
 use mathlib.Core.List.{List, [], ◌∷◌, ◌++◌}
 use lib.ListN.{replicate}
+use Rattle.std.specs.Prelude.{Some}
 use Rattle.words.specs.Bytes.{byte}
 use Rattle.chips.specs.declared.Chip.{Chip}
 use Rattle.chips.specs.Kinds.{facts}
 use Rattle.reads.specs.Reads.{counter_read}
-use Rattle.slot.specs.declared.Holds.TheVariants.{Card}
 use Rattle.slot.specs.declared.Slot.{Slot}
 use Rattle.steps.specs.declared.Order.{Order}
 use Rattle.steps.specs.Steps.{order, body}
@@ -21,7 +21,7 @@ use Rattle.reader.specs.Runs.{Sent, sending}
 use Rattle.reader.specs.Heard.{requested, heard, reached}
 use Rattle.promise.proofs.Reached.{transfer_does, reached_does}
 
-module _ (chip : Chip) (s : Slot) (image : List ℕ) (m : Sent) (holds : s.holds ≡ Card chip) where
+module _ (chip : Chip) (s : Slot) (image : List ℕ) (m : Sent) (holds : s.holds ≡ Some chip) where
   -- a code that reached the card is answered with 90 and the counter in the image afterwards
   pub code_told : reached (facts chip) s image m ≡ true
       → (sending s image m).answer ≡ answer Transfer m.message Fault.Clear (sending s image m).slot (0x90 ∷ byte (sending s image m).image (facts chip).counter ∷ [])

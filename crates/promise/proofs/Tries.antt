@@ -5,6 +5,7 @@ use mathlib.Core.Bool.{Bool, true, false}
 use mathlib.Core.List.{List, [], ◌∷◌}
 use native.Mathlib.Omega.{arith}
 use lib.ListN.{length}
+use Rattle.std.specs.Prelude.{Some}
 use Rattle.words.specs.Choice.{◌⇒◌⁏◌}
 use Rattle.words.specs.Bytes.{byte}
 use Rattle.words.proofs.Choices.{either, and_true}
@@ -14,7 +15,6 @@ use Rattle.chips.specs.declared.Chip.{Chip}
 use Rattle.chips.specs.declared.Facts.{Facts}
 use Rattle.chips.specs.Kinds.{facts}
 use Rattle.chips.proofs.KindLaws.{Coded, coded, laid}
-use Rattle.slot.specs.declared.Holds.TheVariants.{Card}
 use Rattle.slot.specs.declared.Slot.{Slot}
 use Rattle.card.proofs.ImageLaws.{IsCard}
 use Rattle.steps.specs.Steps.{body}
@@ -32,7 +32,7 @@ use Rattle.promise.proofs.Inserted.{put_slot, put_image}
 use Rattle.promise.proofs.Accounts.{fold_is_account}
 
 -- ---- one message
-module _ (chip : Chip) (c : (facts chip).coded ≡ true) (s : Slot) (image : List ℕ) (m : Sent) (holds : s.holds ≡ Card chip) where
+module _ (chip : Chip) (c : (facts chip).coded ≡ true) (s : Slot) (image : List ℕ) (m : Sent) (holds : s.holds ≡ Some chip) where
   abbrev f : Facts
   f = facts chip
 
@@ -62,7 +62,7 @@ module _ (chip : Chip) (c : (facts chip).coded ≡ true) (s : Slot) (image : Lis
 
 -- ---- a run
 module _ (chip : Chip) (c : (facts chip).coded ≡ true) where
-  run_tries : (s : Slot) (image : List ℕ) (ms : List Sent) → s.holds ≡ Card chip
+  run_tries : (s : Slot) (image : List ℕ) (ms : List Sent) → s.holds ≡ Some chip
       → tries_in (facts chip) (run s image ms).image ≡ tries_after (tries (facts chip).full) (tries_in (facts chip) image) (history (facts chip) s image ms)
   unfolding run history tries_after
   run_tries s image [] e = refl
@@ -72,7 +72,7 @@ module _ (chip : Chip) (c : (facts chip).coded ≡ true) where
       ∙ ap (λ (t : ℕ). tries_after (tries (facts chip).full) t (history (facts chip) o.slot o.image ms)) (message_tries chip c s image m e)
 
   -- from whatever slot and image: a record that is not sound and an image that is no card are turned down, and turned-down messages cost none
-  pub tries_left_lem : (s : Slot) (image : List ℕ) (ms : List Sent) → s.holds ≡ Card chip
+  pub tries_left_lem : (s : Slot) (image : List ℕ) (ms : List Sent) → s.holds ≡ Some chip
       → tries_in (facts chip) (run s image ms).image ≡ tries_left (tries (facts chip).full) (tries_in (facts chip) image) (history (facts chip) s image ms)
   tries_left_lem s image ms e = run_tries s image ms e ∙ fold_is_account (tries (facts chip).full) (tries_in (facts chip) image) (history (facts chip) s image ms)
 

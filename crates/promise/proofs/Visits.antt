@@ -6,10 +6,10 @@ use Prim.Native.Nat.{ℕ}
 use lib.ListN.{replicate, take}
 use lib.IntN.{pos}
 use lib.Count.{ones}
+use Rattle.std.specs.Prelude.{Some}
 use Rattle.words.specs.Bounds.{least_room}
 use Rattle.codes.specs.Counters.{tries}
 use Rattle.chips.specs.declared.Chip.TheVariants.{Sle4428, Sle4442}
-use Rattle.chips.specs.declared.Known.TheVariants.{Is}
 use Rattle.chips.specs.Kinds.{facts, chip_of}
 use Rattle.records.specs.declared.Mark.{Mark}
 use Rattle.slot.specs.Slots.{removed, inserted}
@@ -86,7 +86,7 @@ pub counter_read_lem : ((sending burned.slot burned.image asks).answer ≡ succe
 unfolding rules image4442 lent transfer success
 counter_read_lem = counter_told Sle4442 burned.slot burned.image asks refl 4 counter_asked.0 counter_asked.1 counter_asked.2
 
-known4442 : chip_of 30 ≡ Is Sle4442
+known4442 : chip_of 30 ≡ Some Sle4442
 unfolding rules
 known4442 = refl
 

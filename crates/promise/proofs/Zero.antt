@@ -5,6 +5,7 @@ use mathlib.Core.Bool.{Bool, true, false}
 use mathlib.Core.List.{List, [], ◌∷◌, ◌++◌}
 use native.Mathlib.Omega.{arith}
 use borrow.Author.Tests.{eqb-true}
+use Rattle.std.specs.Prelude.{Option, Some}
 use Rattle.words.specs.Bytes.{byte}
 use Rattle.words.proofs.Choices.{and_true}
 use Rattle.codes.proofs.CounterLaws.{tries_zero}
@@ -13,8 +14,6 @@ use Rattle.chips.specs.declared.Chip.{Chip}
 use Rattle.chips.specs.declared.Facts.{Facts}
 use Rattle.chips.specs.Kinds.{facts}
 use Rattle.chips.proofs.KindLaws.{coded, laid}
-use Rattle.slot.specs.declared.Holds.{Holds}
-use Rattle.slot.specs.declared.Holds.TheVariants.{Card}
 use Rattle.slot.specs.declared.Slot.{Slot}
 use Rattle.card.proofs.ImageLaws.{IsCard}
 use Rattle.steps.specs.Steps.{order, body, presents}
@@ -36,7 +35,7 @@ use Rattle.promise.proofs.RunLaws.{run_holds, run_append}
 use Rattle.promise.proofs.Inserted.{put_slot}
 
 -- ---- one message
-module _ (chip : Chip) (c : (facts chip).coded ≡ true) (s : Slot) (image : List ℕ) (holds : s.holds ≡ Card chip) (zero : tries_in (facts chip) image ≡ 0) where
+module _ (chip : Chip) (c : (facts chip).coded ≡ true) (s : Slot) (image : List ℕ) (holds : s.holds ≡ Some chip) (zero : tries_in (facts chip) image ≡ 0) where
   abbrev f : Facts
   f = facts chip
 
@@ -51,7 +50,7 @@ module _ (chip : Chip) (c : (facts chip).coded ≡ true) (s : Slot) (image : Lis
       go : (b : Bool) → s.«open» ≡ b → b ≡ false
       go false e = refl
       go true e =
-          let full : full_code (Card chip) image ≡ true = sym (ap (λ (h : Holds). full_code h image) holds) ∙ (r.sure e).0 in
+          let full : full_code (Some chip) image ≡ true = sym (ap (λ (h : Option Chip). full_code h image) holds) ∙ (r.sure e).0 in
           let same : byte image f.counter ≡ f.full = eqb-true _ _ (and_true _ _ full).1 in
           absurd (omega (arith, same, counter_zero k, (coded chip c).opens))
 
@@ -68,7 +67,7 @@ module _ (chip : Chip) (c : (facts chip).coded ≡ true) (s : Slot) (image : Lis
           ∙ presenting_none f.counter f.full f.code f.digits image (body d) (counter_zero k)
       go false e = shut_kept f s image d c (shut k (sound_parts s image p.sound)) e
 
-  deed_zero : (r : Request) (m : List ℕ) → Proper s image → (deed r (Card chip) s image m).image ≡ image
+  deed_zero : (r : Request) (m : List ℕ) → Proper s image → (deed r (Some chip) s image m).image ≡ image
   unfolding deed commanded performed
   deed_zero SetParameters m p = refl
   deed_zero PowerOn m p = refl
@@ -83,7 +82,7 @@ module _ (chip : Chip) (c : (facts chip).coded ≡ true) (s : Slot) (image : Lis
   came_zero m (down r h) = refl
   came_zero m (failed p h) = refl
   came_zero m (obeyed h) =
-      subst⁻¹ (λ (x : Holds). (deed (requested m) x s image m.message).image ≡ image) holds (deed_zero (requested m) m.message (heard_proper s image m h))
+      subst⁻¹ (λ (x : Option Chip). (deed (requested m) x s image m.message).image ≡ image) holds (deed_zero (requested m) m.message (heard_proper s image m h))
 
   pub message_zero : (m : Sent) → (sending s image m).image ≡ image
   message_zero m = came_zero m (came s image m)
@@ -91,7 +90,7 @@ module _ (chip : Chip) (c : (facts chip).coded ≡ true) (s : Slot) (image : Lis
 -- ---- a run
 module _ (chip : Chip) (c : (facts chip).coded ≡ true) where
   -- "From zero no message changes a byte of that card."
-  pub zero_stays : (s : Slot) (image : List ℕ) (ms : List Sent) → s.holds ≡ Card chip → tries_in (facts chip) image ≡ 0 → (run s image ms).image ≡ image
+  pub zero_stays : (s : Slot) (image : List ℕ) (ms : List Sent) → s.holds ≡ Some chip → tries_in (facts chip) image ≡ 0 → (run s image ms).image ≡ image
   unfolding run
   zero_stays s image [] e z = refl
   zero_stays s image (m ∷ ms) e z =

@@ -2,14 +2,13 @@
 --
 -- "For a code card just inserted and left in, after any run of messages, tries left are those it came with, or all of them since the
 -- last right code that met a try, less the wrong codes since, stopping at zero. From zero no message changes a byte of that card."
-use Rattle.std.specs.Prelude.{length, leb, ◌≢◌, ◌≡◌, ℕ, suc, ◌-◌, Bool, true, false, List, [], ◌∷◌, ◌++◌}
+use Rattle.std.specs.Prelude.{length, leb, ◌≢◌, ◌≡◌, ℕ, suc, ◌-◌, Bool, true, false, List, [], ◌∷◌, ◌++◌, Some}
 use Rattle.words.specs.Choice.{◌and◌, ◌⇒◌⁏◌, ◌or◌, ◌is◌, ◌isnt◌}
 use Rattle.words.specs.Bounds.{least_room}
 use Rattle.words.specs.Bytes.{same}
 use Rattle.codes.specs.Counters.{tries}
 use Rattle.codes.specs.Codes.{code_in}
 use Rattle.chips.specs.declared.Chip.{Chip}
-use Rattle.chips.specs.declared.Known.TheVariants.{Is}
 use Rattle.chips.specs.declared.Facts.{Facts}
 use Rattle.chips.specs.Kinds.{facts, chip_of}
 use Rattle.slot.specs.declared.Slot.{Slot}
@@ -104,7 +103,7 @@ renewed t (right ∷ es) = t isnt 0 or renewed t es
 -- "a code card just inserted": the slot was lent this kind and this image, and the insertion was accepted
 pub record PutIn (chip : Chip) (s : Slot) (kind : ℕ) (image : List ℕ) : Type 0 where
   pub coded : (facts chip).coded ≡ true
-  pub known : chip_of kind ≡ Is chip
+  pub known : chip_of kind ≡ Some chip
   pub accepted : (insertion s kind image).number ≡ 0
 
 -- "and left in, after any run of messages": what the run leaves, and its history

@@ -7,6 +7,7 @@ use mathlib.Core.List.{List}
 use native.Mathlib.Omega.{arith}
 use lib.ListN.{length}
 use borrow.Author.Tests.{le-ltb, not-false}
+use Rattle.std.specs.Prelude.{Option, Some, None}
 use Rattle.words.specs.Bounds.{least_room}
 use Rattle.words.proofs.Choices.{rest, either}
 use Rattle.chips.specs.declared.Chip.{Chip}
@@ -14,8 +15,6 @@ use Rattle.chips.specs.Kinds.{facts}
 use Rattle.sets.specs.Sets.{set_of}
 use Rattle.sets.proofs.SetLaws.{named_taken}
 use Rattle.card.proofs.ImageLaws.{IsCard, card_parts, card_whole}
-use Rattle.slot.specs.declared.Holds.{Holds}
-use Rattle.slot.specs.declared.Holds.TheVariants.{Empty, Card}
 use Rattle.slot.specs.declared.Slot.{Slot}
 use Rattle.slot.specs.Slots.{removed, powered}
 use Rattle.counts.specs.Counts.{put_in}
@@ -37,17 +36,17 @@ use Rattle.faults.proofs.ClearLaws.{clear_field, clear_ready}
 use Rattle.reader.proofs.Came.{Came, down, failed, obeyed, came, heard_proper, heard_clear}
 
 -- ---- the same card
-deed_holds : (r : Request) (h : Holds) (s : Slot) (image m : List ℕ) → (deed r h s image m).slot.holds ≡ s.holds
+deed_holds : (r : Request) (h : Option Chip) (s : Slot) (image m : List ℕ) → (deed r h s image m).slot.holds ≡ s.holds
 unfolding deed commanded performed
 deed_holds SetParameters h s image m = refl
-deed_holds PowerOn Empty s image m = refl
-deed_holds PowerOn (Card chip) s image m = refl
+deed_holds PowerOn None s image m = refl
+deed_holds PowerOn (Some chip) s image m = refl
 deed_holds PowerOff h s image m = refl
 deed_holds SlotStatus h s image m = refl
 deed_holds GetParameters h s image m = refl
 deed_holds ResetParameters h s image m = refl
-deed_holds Transfer Empty s image m = refl
-deed_holds Transfer (Card chip) s image m = slot_by_holds (facts chip) s image (body (apdu m)) (order (facts chip) s (apdu m))
+deed_holds Transfer None s image m = refl
+deed_holds Transfer (Some chip) s image m = slot_by_holds (facts chip) s image (body (apdu m)) (order (facts chip) s (apdu m))
 deed_holds Unsupported h s image m = refl
 
 came_holds : (s : Slot) (image : List ℕ) (m : Sent) {o : Outcome} → Came s image m o → o.slot.holds ≡ s.holds
@@ -83,17 +82,17 @@ served_proper s image m = (served_met s image m).met
 
 -- ---- proper before, proper after
 -- the image of a card that is in is one of its kind
-pub proper_card : (chip : Chip) (s : Slot) (image : List ℕ) → s.holds ≡ Card chip → Proper s image → IsCard (facts chip) image
-proper_card chip s image e p = card_parts (facts chip) image (sym (ap (λ (h : Holds). image_is_card h image) e) ∙ p.card)
+pub proper_card : (chip : Chip) (s : Slot) (image : List ℕ) → s.holds ≡ Some chip → Proper s image → IsCard (facts chip) image
+proper_card chip s image e p = card_parts (facts chip) image (sym (ap (λ (h : Option Chip). image_is_card h image) e) ∙ p.card)
 
-command_proper : (chip : Chip) (s : Slot) (image d : List ℕ) → s.holds ≡ Card chip → s.active ≡ true → Proper s image
+command_proper : (chip : Chip) (s : Slot) (image d : List ℕ) → s.holds ≡ Some chip → s.active ≡ true → Proper s image
     → Proper (slot_by (facts chip) s image (body d) (order (facts chip) s d)) (image_by (facts chip) s image (body d) (order (facts chip) s d))
 command_proper chip s image d e on p =
     let o = order (facts chip) s d in
     let image' : List ℕ = image_by (facts chip) s image (body d) o in
     let k : IsCard (facts chip) image = proper_card chip s image e p in
     record {
-      card = ap (λ (h : Holds). image_is_card h image') (slot_by_holds (facts chip) s image (body d) o ∙ e)
+      card = ap (λ (h : Option Chip). image_is_card h image') (slot_by_holds (facts chip) s image (body d) o ∙ e)
           ∙ card_whole (facts chip) image' (card_kept chip s image (body d) o k (order_fits (facts chip) s d));
       sound = sound_whole _ _ (order_sound chip s image d e on k (sound_parts s image p.sound));
     }
@@ -101,20 +100,20 @@ command_proper chip s image d e on p =
 -- a change of the record alone, which keeps it sound
 changed_proper : (s t : Slot) (image : List ℕ) → t.holds ≡ s.holds → (Sound s image → Sound t image) → Proper s image → Proper t image
 changed_proper s t image e f p =
-    record { card = ap (λ (h : Holds). image_is_card h image) e ∙ p.card; sound = sound_whole _ _ (f (sound_parts s image p.sound)) }
+    record { card = ap (λ (h : Option Chip). image_is_card h image) e ∙ p.card; sound = sound_whole _ _ (f (sound_parts s image p.sound)) }
 
-deed_proper : (r : Request) (h : Holds) (s : Slot) (image m : List ℕ) → s.holds ≡ h → bad_field r m ≡ 0 → ready r s ≡ true → Proper s image
+deed_proper : (r : Request) (h : Option Chip) (s : Slot) (image m : List ℕ) → s.holds ≡ h → bad_field r m ≡ 0 → ready r s ≡ true → Proper s image
     → Proper (deed r h s image m).slot (deed r h s image m).image
 unfolding deed commanded performed
 deed_proper SetParameters h s image m e k on p = changed_proper s _ image refl (set_sound_lem s image (set_of m) (named_taken m k) on) p
-deed_proper PowerOn Empty s image m e k on p = p
-deed_proper PowerOn (Card chip) s image m e k on p = changed_proper s _ image refl (λ r. defaulted_sound (powered true s) image (on_sound s image on r)) p
+deed_proper PowerOn None s image m e k on p = p
+deed_proper PowerOn (Some chip) s image m e k on p = changed_proper s _ image refl (λ r. defaulted_sound (powered true s) image (on_sound s image on r)) p
 deed_proper PowerOff h s image m e k on p = changed_proper s _ image refl (off_sound s image) p
 deed_proper SlotStatus h s image m e k on p = p
 deed_proper GetParameters h s image m e k on p = p
 deed_proper ResetParameters h s image m e k on p = changed_proper s _ image refl (defaulted_sound s image) p
-deed_proper Transfer Empty s image m e k on p = p
-deed_proper Transfer (Card chip) s image m e k on p = command_proper chip s image (apdu m) e on p
+deed_proper Transfer None s image m e k on p = p
+deed_proper Transfer (Some chip) s image m e k on p = command_proper chip s image (apdu m) e on p
 deed_proper Unsupported h s image m e k on p = p
 
 module _ (s : Slot) (image : List ℕ) (m : Sent) where

@@ -6,6 +6,7 @@ use mathlib.Core.List.{List, []}
 use native.Mathlib.Omega.{arith}
 use lib.ListN.{length, length-take}
 use borrow.Author.Tests.{not-false}
+use Rattle.std.specs.Prelude.{Option, Some, None}
 use Rattle.words.specs.Bytes.{four_bytes}
 use Rattle.words.specs.Bounds.{longest_answer}
 use Rattle.words.proofs.Choices.{past, either}
@@ -15,8 +16,6 @@ use Rattle.sets.specs.Sets.{default_set, set_of}
 use Rattle.sets.proofs.SetLaws.{bytes_short}
 use Rattle.card.proofs.ImageLaws.{card_parts}
 use Rattle.slot.specs.declared.Slot.{Slot}
-use Rattle.slot.specs.declared.Holds.{Holds}
-use Rattle.slot.specs.declared.Holds.TheVariants.{Empty, Card}
 use Rattle.sound.specs.Sound.{image_is_card}
 use Rattle.steps.specs.Steps.{p3, body, order}
 use Rattle.steps.proofs.Decisions.{order_fits, order_short}
@@ -26,23 +25,24 @@ use Rattle.faults.specs.declared.Fault.{Fault}
 use Rattle.faults.specs.Faults.{Request, SetParameters, PowerOn, PowerOff, SlotStatus, GetParameters, ResetParameters, Transfer, Unsupported, apdu, type_byte, request_of, fault_of}
 use Rattle.frame.specs.Answers.{header, answer}
 use Rattle.frame.specs.Exchange.{Outcome, reset, deed, replied, reply, served, exchange}
+use Rattle.chips.specs.declared.Chip.{Chip}
 
 reset_short_lem : (f : Facts) (image : List ℕ) → length (reset f image) ≤ 257
 unfolding reset
 reset_short_lem f image = either (λ (l : List ℕ). length l ≤ 257) _ (λ _. omega arith) (λ _. omega (arith, length-take 4 image))
 
 module _ (s : Slot) (image m : List ℕ) (byte : p3 (apdu m) < 256) where
-  deed_short : (r : Request) (h : Holds) → image_is_card h image ≡ true → length (deed r h s image m).said ≤ 257
+  deed_short : (r : Request) (h : Option Chip) → image_is_card h image ≡ true → length (deed r h s image m).said ≤ 257
   unfolding deed commanded performed
   deed_short SetParameters h e = omega (arith, bytes_short (set_of m))
-  deed_short PowerOn Empty e = omega arith
-  deed_short PowerOn (Card chip) e = reset_short_lem (facts chip) image
+  deed_short PowerOn None e = omega arith
+  deed_short PowerOn (Some chip) e = reset_short_lem (facts chip) image
   deed_short PowerOff h e = omega arith
   deed_short SlotStatus h e = omega arith
   deed_short GetParameters h e = omega (arith, bytes_short s.set)
   deed_short ResetParameters h e = omega (arith, bytes_short default_set)
-  deed_short Transfer Empty e = omega arith
-  deed_short Transfer (Card chip) e =
+  deed_short Transfer None e = omega arith
+  deed_short Transfer (Some chip) e =
       said_short chip s image (body (apdu m)) (order (facts chip) s (apdu m)) (card_parts (facts chip) image e).long
       (order_fits (facts chip) s (apdu m)) (order_short (facts chip) s (apdu m) byte)
   deed_short Unsupported h e = omega arith

@@ -2,10 +2,10 @@
 use Prim.Native.Nat.{ℕ, ◌<◌}
 use mathlib.Core.Path.{◌≡◌, refl, sym, ap, ◌∙◌}
 use native.Mathlib.Omega.{arith}
+use Rattle.std.specs.Prelude.{Result, Ok, Err}
 use Rattle.words.specs.Choice.{◌⇒◌⁏◌, ◌is◌}
 use Rattle.slot.specs.declared.Slot.{Slot}
 use Rattle.frame.specs.declared.Refusal.{Refusal}
-use Rattle.frame.specs.declared.Verdict.{Verdict}
 use Rattle.frame.specs.declared.Reply.{Reply}
 use Rattle.frame.specs.Exchange.{number_of, number, answer_length}
 
@@ -30,14 +30,14 @@ refusal_told Refusal.Occupied = refl
 refusal_only : (r r' : Refusal) → number_of r ≡ number_of r' → r ≡ r'
 refusal_only r r' e = sym (refusal_told r) ∙ ap refusal_of e ∙ refusal_told r'
 
-pub verdict_only : (v w : Verdict) → number v ≡ number w → answer_length v ≡ answer_length w → v ≡ w
-verdict_only (Verdict.Answered n) (Verdict.Answered k) e l = ap Verdict.Answered l
-verdict_only (Verdict.Answered n) (Verdict.Refused r) e l = absurd (omega (arith, refused_some r, e))
-verdict_only (Verdict.Refused r) (Verdict.Answered n) e l = absurd (omega (arith, refused_some r, e))
-verdict_only (Verdict.Refused r) (Verdict.Refused r') e l = ap Verdict.Refused (refusal_only r r' e)
+pub verdict_only : (v w : Result ℕ Refusal) → number v ≡ number w → answer_length v ≡ answer_length w → v ≡ w
+verdict_only (Ok n) (Ok k) e l = ap Ok l
+verdict_only (Ok n) (Err r) e l = absurd (omega (arith, refused_some r, e))
+verdict_only (Err r) (Ok n) e l = absurd (omega (arith, refused_some r, e))
+verdict_only (Err r) (Err r') e l = ap Err (refusal_only r r' e)
 
-abbrev replying : Verdict → Slot → Reply
+abbrev replying : Result ℕ Refusal → Slot → Reply
 replying v s = record { verdict = v; slot = s }
 
 pub reply_only : (r r' : Reply) → r.verdict ≡ r'.verdict → r.slot ≡ r'.slot → r ≡ r'
-reply_only r r' e h = ap (λ (v : Verdict). replying v r.slot) e ∙ ap (replying r'.verdict) h
+reply_only r r' e h = ap (λ (v : Result ℕ Refusal). replying v r.slot) e ∙ ap (replying r'.verdict) h

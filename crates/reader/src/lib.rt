@@ -2,45 +2,36 @@
 // No offered function has a `requires`: any message, any image, any record and any answer buffer has its one outcome.
 #![tactic(auto)]
 
-ghost use Rattle.std.specs.Prelude.{◌≡◌, [], ◌≤◌, length};
+ghost use Rattle.std.specs.Prelude.{◌≡◌, [], ◌≤◌, length, Err};
 ghost use Rattle.words.specs.Bounds.{least_room};
 ghost use Rattle.slot.specs.Slots.{removed};
 ghost use Rattle.frame.specs.Exchange.{served, exchange, insertion, Gives};
 ghost use Rattle.reader.specs.Fronts.{front_of};
 
-use chips::Known;
-use frame::{Refusal, Reply, Verdict};
+use frame::{Refusal, Reply};
 use slot::Slot;
-
-// What a message means, by tests 1 and 2, which look at no slot.
-#[derive(Clone, Copy)]
-pub enum Meant {
-    Refused(Refusal),
-    // The slot that bSlot names.
-    Slot(u8),
-}
 
 // A message or insertion that is turned down keeps the slot as it is.
 fn turn_down(refusal: Refusal, slot: Slot) -> Reply
-    ensures { (result.verdict ≡ Verdict.Refused refusal) × (result.slot ≡ slot) }
+    ensures { (result.verdict ≡ Err refusal) × (result.slot ≡ slot) }
 {
     Reply {
-        verdict: Verdict::Refused(refusal),
+        verdict: Err(refusal),
         slot,
     }
 }
 
-// Tests 1 and 2, and the slot that the message names; room is the length of the answer buffer.
-pub fn front(msg: &[u8], room: usize) -> Meant
+// Tests 1 and 2, which look at no slot, and the slot that bSlot names; room is the length of the answer buffer.
+pub fn front(msg: &[u8], room: usize) -> Result<u8, Refusal>
     ensures { result ≡ front_of msg.now room }
 {
     if room < words::ROOM {
-        return Meant::Refused(Refusal::Buffer);
+        return Err(Refusal::Buffer);
     }
     if msg.len() < 10 {
-        return Meant::Refused(Refusal::Message);
+        return Err(Refusal::Message);
     }
-    Meant::Slot(msg[5])
+    Ok(msg[5])
 }
 
 // What the named slot does: tests 3 and 4, then the handler.
@@ -62,10 +53,9 @@ pub fn message(slot: Slot, image: &mut [u8], msg: &[u8], answer: &mut [u8]) -> R
     ensures { Gives (exchange slot image.old msg.now (length answer.old)) result image.new answer.old
         answer.new }
 {
-    let meant = front(msg, answer.len());
-    match meant {
-        Meant::Refused(refusal) => turn_down(refusal, slot),
-        Meant::Slot(_) => serve(slot, image, msg, answer),
+    match front(msg, answer.len()) {
+        Err(refusal) => turn_down(refusal, slot),
+        Ok(_) => serve(slot, image, msg, answer),
     }
 }
 
@@ -76,8 +66,7 @@ pub fn insert(slot: Slot, kind: u8, image: &[u8]) -> Reply
     if slot.has_card() {
         return turn_down(Refusal::Occupied, slot);
     }
-    let known = chips::chip_of(kind);
-    let Known::Is(chip) = known else {
+    let Some(chip) = chips::chip_of(kind) else {
         return turn_down(Refusal::Image, slot);
     };
     if !card::is_card(chip, image) {
@@ -89,7 +78,7 @@ pub fn insert(slot: Slot, kind: u8, image: &[u8]) -> Reply
         counts::count_in(chip, image),
     );
     Reply {
-        verdict: Verdict::Answered(0),
+        verdict: Ok(0),
         slot: next,
     }
 }

@@ -8,15 +8,16 @@ use lib.ListN.{length, drop, set, replicate, length-drop, length-replicate, repl
 use lib.Dec.{ltb}
 use lib.Seq.{sets, sets-eq}
 use borrow.Author.Tests.{eq-eqb, ne_eqb, eqb-true, not-false, ltb-false}
+use Rattle.std.specs.Prelude.{Option, Result, Ok, Err}
 use Rattle.words.specs.Choice.{◌and◌, ◌is◌, ◌isnt◌}
 use Rattle.words.specs.Bytes.{byte, blank, four_at, eight_at, low_first}
 use Rattle.words.proofs.Choices.{either, and_fails, and_holds}
 use Rattle.words.proofs.Lists.{sets_snoc, sum_zero, blank_four, zero_last}
 use Rattle.slot.specs.declared.Slot.{Slot}
-use Rattle.slot.specs.declared.Holds.{Holds}
 use Rattle.slot.specs.Slots.{removed}
-use Rattle.record.specs.declared.Reading.{Reading}
+use Rattle.record.specs.declared.Flaw.{Flaw}
 use Rattle.record.specs.Raw.{kind_of, state_of, raw_of, slot_from, slot_with}
+use Rattle.chips.specs.declared.Chip.{Chip}
 
 -- ---- blank bytes
 -- the number in eight bytes is 0 where every byte is
@@ -46,24 +47,24 @@ blank_last l e = zero_last l 24 8 (eight_at l 24) (blank_eight l 24 (omega arith
 
 -- ---- a record that was found
 -- what a reading says
-abbrev is_found : Reading → Bool
-is_found (Reading.Found s) = true
-is_found (Reading.Broken h) = false
-is_found Reading.Unknown = false
+abbrev is_found : Result Slot Flaw → Bool
+is_found (Ok s) = true
+is_found (Err (Flaw.Broken h)) = false
+is_found (Err Flaw.Unknown) = false
 
-abbrev slot_in : Reading → Slot
-slot_in (Reading.Found s) = s
-slot_in (Reading.Broken h) = removed
-slot_in Reading.Unknown = removed
+abbrev slot_in : Result Slot Flaw → Slot
+slot_in (Ok s) = s
+slot_in (Err (Flaw.Broken h)) = removed
+slot_in (Err Flaw.Unknown) = removed
 
-broken_found : {A : Type 0} {h : Holds} {s : Slot} → Reading.Broken h ≡ Reading.Found s → A
+broken_found : {A : Type 0} {h : Option Chip} {s : Slot} → Err (Flaw.Broken h) ≡ Ok s → A
 broken_found e = absurd (false≢true (ap is_found e))
 
-pub unknown_found : {A : Type 0} {s : Slot} → Reading.Unknown ≡ Reading.Found s → A
+pub unknown_found : {A : Type 0} {s : Slot} → (Err Flaw.Unknown) ≡ Ok s → A
 unknown_found e = absurd (false≢true (ap is_found e))
 
 -- a record is made as one, and s is the slot in it
-pub record Made (h : Holds) (r : List ℕ) (s : Slot) : Type 0 where
+pub record Made (h : Option Chip) (r : List ℕ) (s : Slot) : Type 0 where
   pub long : length r ≡ 32
   pub on : byte r 1 ≤ 1
   pub unlocked : byte r 4 ≤ 1
@@ -71,10 +72,10 @@ pub record Made (h : Holds) (r : List ℕ) (s : Slot) : Type 0 where
   pub rest : blank (drop 17 r) ≡ true
   pub said : slot_from h r ≡ s
 
-pub found_with : (h : Holds) (r : List ℕ) (s : Slot) → slot_with h r ≡ Reading.Found s → Made h r s
+pub found_with : (h : Option Chip) (r : List ℕ) (s : Slot) → slot_with h r ≡ Ok s → Made h r s
 unfolding slot_with
 found_with h r s =
-    let P : Reading → Type 0 = λ x. x ≡ Reading.Found s → Made h r s in
+    let P : Result Slot Flaw → Type 0 = λ x. x ≡ Ok s → Made h r s in
     either P (length r isnt 32) (λ _. broken_found) (λ a.
     either P (ltb 1 (byte r 1)) (λ _. broken_found) (λ b.
     either P (ltb 1 (byte r 4)) (λ _. broken_found) (λ c.

@@ -8,21 +8,21 @@ use lib.ListN.{length, take, drop, replicate, length-drop, take-append-drop}
 use lib.Seq.{drop-cons}
 use lib.Dec.{ltb}
 use borrow.Author.Tests.{eqb-true, eq-eqb, ne_eqb}
+use Rattle.std.specs.Prelude.{Option, Result, Some, None, Ok}
 use Rattle.words.specs.Choice.{◌and◌, ◌is◌}
 use Rattle.words.specs.Bytes.{AllBytes, byte, blank, four_at, eight_at, low_first, series}
 use Rattle.words.proofs.Numbers.{eight_back, series_bytes, eight_number, low_number}
 use Rattle.words.proofs.Lists.{length_series, series_part}
 use Rattle.words.proofs.Choices.{first, rest, passed, either, and_true}
-use Rattle.chips.specs.declared.Known.{Known}
 use Rattle.chips.specs.Kinds.{chip_of}
 use Rattle.chips.proofs.Each.{known_kind, kind_of_found}
 use Rattle.chips.proofs.KindLaws.{laid}
 use Rattle.slot.specs.declared.Slot.{Slot}
-use Rattle.slot.specs.declared.Holds.{Holds}
 use Rattle.slot.specs.Slots.{slotted}
-use Rattle.record.specs.declared.Reading.{Reading}
+use Rattle.record.specs.declared.Flaw.{Flaw}
 use Rattle.record.specs.Raw.{kind_of, flag_of, raw_of, slot_from, slot_with, card_with, slot_of}
 use Rattle.record.proofs.RawLaws.{Made, found_with, unknown_found}
+use Rattle.chips.specs.declared.Chip.{Chip}
 
 -- ---- what is written reads back as the same slot
 -- the bytes behind the parameters
@@ -43,11 +43,11 @@ flag_back true = refl
 flag_back false = refl
 
 -- a kind byte tells what is held
-kind_back : (h : Holds) (r : List ℕ) → byte r 0 ≡ kind_of h → slot_of r ≡ slot_with h r
+kind_back : (h : Option Chip) (r : List ℕ) → byte r 0 ≡ kind_of h → slot_of r ≡ slot_with h r
 unfolding slot_of card_with
-kind_back Holds.Empty r e = first _ _ (eq-eqb (byte r 0) 0 e)
-kind_back (Holds.Card chip) r e =
-    rest _ _ (ne_eqb (byte r 0) 0 (λ z. omega (arith, (laid chip).numbered, e, z))) ∙ ap (λ (k : Known). card_with k r) (ap chip_of e ∙ known_kind chip)
+kind_back None r e = first _ _ (eq-eqb (byte r 0) 0 e)
+kind_back (Some chip) r e =
+    rest _ _ (ne_eqb (byte r 0) 0 (λ z. omega (arith, (laid chip).numbered, e, z))) ∙ ap (λ (k : Option Chip). card_with k r) (ap chip_of e ∙ known_kind chip)
 
 module _ (s : Slot) where
   fields_back : slot_from s.holds (raw_of s) ≡ s
@@ -64,14 +64,14 @@ module _ (s : Slot) where
       ∙ ap₂ (λ (x y : ℕ). f s.active s.«open» x y c₀) set n
       ∙ ap (f s.active s.«open» s.set s.protected) c
 
-  with_back : slot_with s.holds (raw_of s) ≡ Reading.Found s
+  with_back : slot_with s.holds (raw_of s) ≡ Ok s
   unfolding slot_with raw_of blank low_first ◌and◌
   with_back =
       sym
       (passed _ refl
-      (passed _ (flag_small s.active) (passed _ (flag_small s.«open») (passed _ (flag_small s.chosen) (passed _ refl (sym (ap Reading.Found fields_back)))))))
+      (passed _ (flag_small s.active) (passed _ (flag_small s.«open») (passed _ (flag_small s.chosen) (passed _ refl (sym (ap Ok fields_back)))))))
 
-  pub reads_back_lem : slot_of (raw_of s) ≡ Reading.Found s
+  pub reads_back_lem : slot_of (raw_of s) ≡ Ok s
   unfolding raw_of
   reads_back_lem = kind_back s.holds (raw_of s) refl ∙ with_back
 
@@ -100,21 +100,21 @@ pub record Front (r : List ℕ) (s : Slot) : Type 0 where
 pub front_rest : {r : List ℕ} {s : Slot} → Front r s → drop 17 r ≡ replicate 15 0
 front_rest {r} f = blank_told (drop 17 r) 15 (omega (arith, length-drop 17 r, f.made.long)) f.made.rest
 
-made_front : (h : Holds) (r : List ℕ) (s : Slot) → kind_of h ≡ byte r 0 → Made h r s → Front r s
+made_front : (h : Option Chip) (r : List ℕ) (s : Slot) → kind_of h ≡ byte r 0 → Made h r s → Front r s
 made_front h r s k l =
     let e : h ≡ s.holds = ap (λ (t : Slot). t.holds) l.said in
-    record { kind = sym k ∙ ap kind_of e; made = subst (λ (x : Holds). Made x r s) e l }
+    record { kind = sym k ∙ ap kind_of e; made = subst (λ (x : Option Chip). Made x r s) e l }
 
-card_front : (k : Known) (r : List ℕ) (s : Slot) → chip_of (byte r 0) ≡ k → card_with k r ≡ Reading.Found s → Front r s
+card_front : (k : Option Chip) (r : List ℕ) (s : Slot) → chip_of (byte r 0) ≡ k → card_with k r ≡ Ok s → Front r s
 unfolding card_with
-card_front (Known.Is chip) r s k e = made_front (Holds.Card chip) r s (kind_of_found (byte r 0) chip k) (found_with (Holds.Card chip) r s e)
-card_front Known.Unknown r s k e = unknown_found e
+card_front (Some chip) r s k e = made_front (Some chip) r s (kind_of_found (byte r 0) chip k) (found_with (Some chip) r s e)
+card_front None r s k e = unknown_found e
 
-pub found_front : (r : List ℕ) (s : Slot) → slot_of r ≡ Reading.Found s → Front r s
+pub found_front : (r : List ℕ) (s : Slot) → slot_of r ≡ Ok s → Front r s
 unfolding slot_of
 found_front r s =
-    either (λ (x : Reading). x ≡ Reading.Found s → Front r s) (byte r 0 is 0)
-    (λ z e. made_front Holds.Empty r s (sym (eqb-true (byte r 0) 0 z)) (found_with Holds.Empty r s e))
+    either (λ (x : Result Slot Flaw). x ≡ Ok s → Front r s) (byte r 0 is 0)
+    (λ z e. made_front None r s (sym (eqb-true (byte r 0) 0 z)) (found_with None r s e))
     (λ _ e. card_front (chip_of (byte r 0)) r s refl e)
 
 -- so its bytes are those of the slot, all of them
@@ -161,5 +161,5 @@ front_raw (x ∷ y ∷ z ∷ u ∷ v ∷ l) s b f =
     ∙ ap (λ (k : ℕ). w (kind_of s.holds) (flag_of (y is 1)) k state) (sym (flag_told v f.made.unlocked))
     ∙ ap raw_of f.made.said
 
-pub found_raw : (r : List ℕ) (s : Slot) → AllBytes r → slot_of r ≡ Reading.Found s → r ≡ raw_of s
+pub found_raw : (r : List ℕ) (s : Slot) → AllBytes r → slot_of r ≡ Ok s → r ≡ raw_of s
 found_raw r s b e = front_raw r s b (found_front r s e)

@@ -1,21 +1,18 @@
 -- The raw slot record, 32 bytes: what is written, and what any bytes are read as.
-use Rattle.std.specs.Prelude.{ℕ, ◌+◌, ◌*◌, Bool, true, false, not, List, [], ◌∷◌, ◌++◌, length, drop, replicate, ltb}
+use Rattle.std.specs.Prelude.{ℕ, ◌+◌, ◌*◌, Bool, true, false, not, List, [], ◌∷◌, ◌++◌, length, drop, replicate, ltb, Option, Result, Some, None, Ok, Err}
 use Rattle.words.specs.Choice.{◌⇒◌⁏◌, ◌is◌, ◌isnt◌}
 use Rattle.words.specs.Bytes.{byte, blank, eight_at, low_first}
-use Rattle.chips.specs.declared.Known.{Known}
-use Rattle.chips.specs.declared.Known.TheVariants.{Is, Unknown}
 use Rattle.chips.specs.Kinds.{facts, chip_of}
 use Rattle.slot.specs.declared.Slot.{Slot}
-use Rattle.slot.specs.declared.Holds.{Holds}
-use Rattle.slot.specs.declared.Holds.TheVariants.{Empty, Card}
 use Rattle.slot.specs.Slots.{slotted}
-use Rattle.record.specs.declared.Reading.{Reading}
+use Rattle.record.specs.declared.Flaw.{Flaw}
+use Rattle.chips.specs.declared.Chip.{Chip}
 
 -- ---- what is written
 -- "kind (0 none)"
-abbrev pub kind_of : Holds → ℕ
-kind_of Empty = 0
-kind_of (Card chip) = (facts chip).kind
+abbrev pub kind_of : Option Chip → ℕ
+kind_of None = 0
+kind_of (Some chip) = (facts chip).kind
 
 -- "active (0 or 1)", "open (0 or 1)"; the flag of the page likewise
 abbrev pub flag_of : Bool → ℕ
@@ -32,23 +29,23 @@ unfoldable pub raw_of : Slot → List ℕ
 raw_of s = kind_of s.holds ∷ state_of s ++ replicate 15 0
 
 -- ---- what is read
-abbrev pub slot_from : Holds → List ℕ → Slot
+abbrev pub slot_from : Option Chip → List ℕ → Slot
 slot_from h r = slotted h (byte r 1 is 1) (byte r 2) (byte r 3) (byte r 4 is 1) (eight_at r 5) (byte r 13) (byte r 14 + 256 * byte r 15) (byte r 16 is 1)
 
 -- "A record of another length, a byte where only 0 or 1 may stand, a rest byte not 00h": broken. What it holds is told by the kind byte.
-unfoldable pub slot_with : Holds → List ℕ → Reading
+unfoldable pub slot_with : Option Chip → List ℕ → Result Slot Flaw
 slot_with h r =
-    length r isnt 32 ⇒ Reading.Broken h
-    ⁏ ltb 1 (byte r 1) ⇒ Reading.Broken h
-    ⁏ ltb 1 (byte r 4) ⇒ Reading.Broken h
-    ⁏ ltb 1 (byte r 16) ⇒ Reading.Broken h
-    ⁏ not (blank (drop 17 r)) ⇒ Reading.Broken h
-    ⁏ Reading.Found (slot_from h r)
+    length r isnt 32 ⇒ Err (Flaw.Broken h)
+    ⁏ ltb 1 (byte r 1) ⇒ Err (Flaw.Broken h)
+    ⁏ ltb 1 (byte r 4) ⇒ Err (Flaw.Broken h)
+    ⁏ ltb 1 (byte r 16) ⇒ Err (Flaw.Broken h)
+    ⁏ not (blank (drop 17 r)) ⇒ Err (Flaw.Broken h)
+    ⁏ Ok (slot_from h r)
 
-unfoldable pub card_with : Known → List ℕ → Reading
-card_with (Is chip) r = slot_with (Card chip) r
-card_with Unknown r = Reading.Unknown
+unfoldable pub card_with : Option Chip → List ℕ → Result Slot Flaw
+card_with (Some chip) r = slot_with (Some chip) r
+card_with None r = Err Flaw.Unknown
 
 -- any bytes: "A kind byte that is no kind" comes first
-unfoldable pub slot_of : List ℕ → Reading
-slot_of r = byte r 0 is 0 ⇒ slot_with Empty r ⁏ card_with (chip_of (byte r 0)) r
+unfoldable pub slot_of : List ℕ → Result Slot Flaw
+slot_of r = byte r 0 is 0 ⇒ slot_with None r ⁏ card_with (chip_of (byte r 0)) r

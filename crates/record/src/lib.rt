@@ -10,17 +10,15 @@ ghost use Rattle.words.specs.Choice.{◌⇒◌⁏◌, ◌is◌};
 ghost use Rattle.words.specs.Bytes.{blank};
 ghost use Rattle.record.specs.Raw.{kind_of, flag_of, state_of, raw_of, slot_with, slot_of};
 
-use chips::Known;
-use slot::{Holds, Slot};
+use chips::Chip;
+use slot::Slot;
 use words::{byte_at, eight_at, put_eight};
 
-// What a raw record is read as.
+// Why a raw record is none.
 #[derive(Clone, Copy)]
-pub enum Reading {
-    // A slot; whether it is sound is seen beside the image.
-    Found(Slot),
+pub enum Flaw {
     // No record, or none of ours; what it holds is told by its kind byte.
-    Broken(Holds),
+    Broken(Option<Chip>),
     // The kind byte is no kind.
     Unknown,
 }
@@ -28,12 +26,12 @@ pub enum Reading {
 // ---- writing
 
 // The kind byte.
-fn kind_of(holds: Holds) -> u8
+fn kind_of(holds: Option<Chip>) -> u8
     ensures { result ≡ kind_of holds }
 {
     match holds {
-        Holds::Empty => 0,
-        Holds::Card(chip) => chip.facts().kind,
+        None => 0,
+        Some(chip) => chip.facts().kind,
     }
 }
 
@@ -79,8 +77,7 @@ pub fn write_record(slot: Slot, raw: &mut [u8])
     if raw.len() != 32 {
         return;
     }
-    let holds = slot.holds;
-    raw[0] = kind_of(holds);
+    raw[0] = kind_of(slot.holds);
     write_state(slot, raw);
     clear_rest(raw);
 }
@@ -99,28 +96,28 @@ fn is_blank(raw: &[u8]) -> bool
 }
 
 // Reads the bytes behind the kind byte.
-fn read_with(holds: Holds, raw: &[u8]) -> Reading
+fn read_with(holds: Option<Chip>, raw: &[u8]) -> Result<Slot, Flaw>
     ensures { result ≡ slot_with holds raw.now }
 {
     if raw.len() != 32 {
-        return Reading::Broken(holds);
+        return Err(Flaw::Broken(holds));
     }
     let active = raw[1];
     if 1 < active {
-        return Reading::Broken(holds);
+        return Err(Flaw::Broken(holds));
     }
     let open = raw[4];
     if 1 < open {
-        return Reading::Broken(holds);
+        return Err(Flaw::Broken(holds));
     }
     let chosen = raw[16];
     if 1 < chosen {
-        return Reading::Broken(holds);
+        return Err(Flaw::Broken(holds));
     }
     if !is_blank(raw) {
-        return Reading::Broken(holds);
+        return Err(Flaw::Broken(holds));
     }
-    Reading::Found(Slot::of(
+    Ok(Slot::of(
         holds,
         active == 1,
         raw[2],
@@ -133,17 +130,14 @@ fn read_with(holds: Holds, raw: &[u8]) -> Reading
     ))
 }
 
-// Reads any bytes: a slot, a broken record or an unknown kind.
-pub fn read_record(raw: &[u8]) -> Reading
+// Reads any bytes: a slot, of which is seen beside the image whether it is sound, or why it is none.
+pub fn read_record(raw: &[u8]) -> Result<Slot, Flaw>
     ensures { result ≡ slot_of raw.now }
 {
     let kind = byte_at(raw, 0);
     if kind == 0 {
-        return read_with(Holds::Empty, raw);
+        return read_with(None, raw);
     }
-    let known = chips::chip_of(kind);
-    let Known::Is(chip) = known else {
-        return Reading::Unknown;
-    };
-    read_with(Holds::Card(chip), raw)
+    let chip = chips::chip_of(kind).ok_or(Flaw::Unknown)?;
+    read_with(Some(chip), raw)
 }

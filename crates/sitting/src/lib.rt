@@ -54,9 +54,8 @@ fn put_in(kind: u8, card: &[u8], slot: Slot, size: usize, image: &mut [u8]) -> D
     ensures { (was : List ℕ) → Leaves (inserting slot kind card.now (take size image.old)) result image.old image.new was was }
 {
     let reply = reader::insert(slot, taken_for(kind), card);
-    let verdict = reply.verdict;
     let next = reply.slot;
-    let number = verdict.number();
+    let number = frame::number(reply.verdict);
     if number != 0 {
         return Done {
             number,
@@ -108,11 +107,10 @@ fn message(body: &[u8], slot: Slot, size: usize, image: &mut [u8], answer: &mut 
         image.new answer.old answer.new }
 {
     let reply = reader::message(slot, &mut image[..size], body, answer);
-    let verdict = reply.verdict;
     let next = reply.slot;
     Done {
-        number: verdict.number(),
-        len: verdict.len(),
+        number: frame::number(reply.verdict),
+        len: frame::answer_length(reply.verdict),
         held: Held { slot: next, size },
     }
 }

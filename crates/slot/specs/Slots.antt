@@ -1,26 +1,24 @@
 -- The slot record: what it holds, and its changes. A record is written out here and nowhere else.
-use Rattle.std.specs.Prelude.{ℕ, Bool, true, false}
+use Rattle.std.specs.Prelude.{ℕ, Bool, true, false, Option, Some, None}
 use Rattle.words.specs.Choice.{◌⇒◌⁏◌, ◌is◌}
 use Rattle.chips.specs.declared.Chip.{Chip}
 use Rattle.chips.specs.Kinds.{facts}
 use Rattle.sets.specs.Sets.{default_set}
-use Rattle.slot.specs.declared.Holds.{Holds}
-use Rattle.slot.specs.declared.Holds.TheVariants.{Empty, Card}
 use Rattle.slot.specs.declared.Slot.{Slot}
 
 -- "The slot holds nothing or a card of one kind"
-abbrev pub occupied : Holds → Bool
-occupied Empty = false
-occupied (Card chip) = true
+abbrev pub occupied : Option Chip → Bool
+occupied None = false
+occupied (Some chip) = true
 
 -- the kind's own type; none is 0
-abbrev pub own_type : Holds → ℕ
-own_type Empty = 0
-own_type (Card chip) = (facts chip).selects
+abbrev pub own_type : Option Chip → ℕ
+own_type None = 0
+own_type (Some chip) = (facts chip).selects
 
 -- ---- the changes
 -- a record of its fields, and a record with one field changed; every other change is made of these
-abbrev pub slotted : Holds → Bool → ℕ → ℕ → Bool → ℕ → ℕ → ℕ → Bool → Slot
+abbrev pub slotted : Option Chip → Bool → ℕ → ℕ → Bool → ℕ → ℕ → ℕ → Bool → Slot
 slotted h on t p o set left n c = record { holds = h; active = on; selected = t; page = p; «open» = o; set = set; tries = left; protected = n; chosen = c }
 
 abbrev pub active_as : Bool → Slot → Slot
@@ -50,12 +48,12 @@ chosen_as c s = slotted s.holds s.active s.selected s.page s.«open» s.set s.tr
 -- "Insertion gives: inactive, no type, page 8, closed"; the default parameters return; tries left and number of protected bytes are those that come; no
 -- command 01 has succeeded since
 abbrev pub inserted : Chip → ℕ → ℕ → Slot
-inserted chip left n = slotted (Card chip) false 0 8 false default_set left n false
+inserted chip left n = slotted (Some chip) false 0 8 false default_set left n false
 
 -- "Removal always gives the empty sound slot"; the default parameters return; "For .. an empty slot both are 0"; no
 -- command 01 has succeeded
 abbrev pub removed : Slot
-removed = slotted Empty false 0 8 false default_set 0 0 false
+removed = slotted None false 0 8 false default_set 0 0 false
 
 -- "Power on: active, no type, closed"; "Power off: inactive, no type, closed. Page size survives both", and so does its flag
 abbrev pub powered : Bool → Slot → Slot

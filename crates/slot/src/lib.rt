@@ -7,19 +7,13 @@ ghost use Rattle.slot.specs.Slots.{occupied, own_type, page_after, slotted, inse
 
 use chips::Chip;
 
-// The slot holds nothing or a card of one kind; its image stays beside it.
-#[derive(Clone, Copy)]
-pub enum Holds {
-    Empty,
-    Card(Chip),
-}
-
 // The order of the fields is the cheapest that was measured.
 #[derive(Clone, Copy)]
 pub struct Slot {
     // The parameters: a number that is read by crate sets.
     pub set: usize,
-    pub holds: Holds,
+    // The chip of the card that is in; its image stays beside the record.
+    pub holds: Option<Chip>,
     pub active: bool,
     pub open: bool,
     // The selected type; 0 is none.
@@ -39,13 +33,13 @@ pub fn empty() -> Slot
     ensures { result ≡ removed }
 {
     let set = sets::default_set();
-    Slot::of(Holds::Empty, false, 0, 8, false, set, 0, 0, false)
+    Slot::of(None, false, 0, 8, false, set, 0, 0, false)
 }
 
 impl Slot {
     // A record of its fields.
     pub fn of(
-        holds: Holds,
+        holds: Option<Chip>,
         active: bool,
         selected: u8,
         page: u8,
@@ -76,9 +70,8 @@ impl Slot {
     pub fn insert(self, chip: Chip, tries: u8, protected: u16) -> Slot
         ensures { result ≡ inserted chip tries protected }
     {
-        let holds = Holds::Card(chip);
         let set = sets::default_set();
-        Slot::of(holds, false, 0, 8, false, set, tries, protected, false)
+        Slot::of(Some(chip), false, 0, 8, false, set, tries, protected, false)
     }
 
     // The empty sound slot.
@@ -193,21 +186,16 @@ impl Slot {
     pub fn has_card(self) -> bool
         ensures { result ≡ occupied self.holds }
     {
-        let holds = self.holds;
-        match holds {
-            Holds::Empty => false,
-            Holds::Card(_) => true,
-        }
+        self.holds.is_some()
     }
 
     // The type of the card that is in, 0 with none.
     pub fn own_type(self) -> u8
         ensures { result ≡ own_type self.holds }
     {
-        let holds = self.holds;
-        match holds {
-            Holds::Empty => 0,
-            Holds::Card(chip) => chip.facts().selects,
+        match self.holds {
+            None => 0,
+            Some(chip) => chip.facts().selects,
         }
     }
 }

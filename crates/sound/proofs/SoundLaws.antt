@@ -5,13 +5,12 @@ use mathlib.Core.Bool.{Bool, true, false, not, true≢false, false≢true}
 use mathlib.Core.Logic.{◌⊎◌, inl, inr}
 use Prim.Native.Nat.{ℕ}
 use borrow.Author.Tests.{eqb-true, eq-eqb, not-true}
+use Rattle.std.specs.Prelude.{Option, Some, None}
 use Rattle.words.specs.Choice.{◌and◌, ◌or◌, ◌is◌}
 use Rattle.words.proofs.Choices.{either, and_true, or_true, means_true, both, or_left, or_right, meaning}
 use Rattle.chips.specs.declared.Chip.{Chip}
 use Rattle.sets.specs.Sets.{default_set, takes}
 use Rattle.sets.proofs.SetLaws.{default_taken}
-use Rattle.slot.specs.declared.Holds.{Holds}
-use Rattle.slot.specs.declared.Holds.TheVariants.{Empty, Card}
 use Rattle.slot.specs.declared.Slot.{Slot}
 use Rattle.slot.specs.Slots.{occupied, own_type, page_for, page_after, removed, powered, selecting, paged, opened, closed, set_as, defaulted, tries_as, protected_as}
 use Rattle.counts.specs.Counts.{tries_of, protected_of, Counted, put_in}
@@ -47,7 +46,7 @@ unfolding sound
 six_and_counts s image = set_later (page_size s.page) (set_sound s.holds s.set) (empty_sound s) (idle_sound s) (type_sound s) (open_sound s image) (counts_sound s image)
 
 -- the default is sound beside every card, and with none
-pub default_sound : (h : Holds) → set_sound h default_set ≡ true
+pub default_sound : (h : Option Chip) → set_sound h default_set ≡ true
 unfolding set_sound
 default_sound h = both default_taken (meaning _ (λ _. eq-eqb default_set default_set refl))
 
@@ -228,7 +227,7 @@ module _ (image : List ℕ) where
     idle = λ h. (refl, refl);
     own = inl refl;
     sure = λ h. absurd (false≢true h);
-    set = default_sound (Card chip);
+    set = default_sound (Some chip);
     counts = record { tries = refl; protected = refl };
   }
 
@@ -239,6 +238,6 @@ module _ (image : List ℕ) where
     idle = λ h. (refl, refl);
     own = inl refl;
     sure = λ h. absurd (false≢true h);
-    set = default_sound Empty;
+    set = default_sound None;
     counts = record { tries = refl; protected = refl };
   }

@@ -1,25 +1,24 @@
 -- When a slot record is sound beside an image, and whether the image is one of its card: numbers 4 and 3 of what is turned down.
-use Rattle.std.specs.Prelude.{ℕ, Bool, true, false, not, List}
+use Rattle.std.specs.Prelude.{ℕ, Bool, true, false, not, List, Option, Some, None}
 use Rattle.words.specs.Choice.{◌and◌, ◌or◌, ◌means◌, ◌is◌}
 use Rattle.words.specs.Bytes.{byte}
 use Rattle.chips.specs.Kinds.{facts}
 use Rattle.sets.specs.Sets.{default_set, takes}
 use Rattle.card.specs.Images.{is_card}
-use Rattle.slot.specs.declared.Holds.{Holds}
-use Rattle.slot.specs.declared.Holds.TheVariants.{Empty, Card}
 use Rattle.slot.specs.declared.Slot.{Slot}
 use Rattle.slot.specs.Slots.{occupied, own_type}
 use Rattle.counts.specs.Counts.{tries_of, protected_of}
+use Rattle.chips.specs.declared.Chip.{Chip}
 
 -- a code card with a full counter
-abbrev pub full_code : Holds → List ℕ → Bool
-full_code Empty image = false
-full_code (Card chip) image = (facts chip).coded and byte image (facts chip).counter is (facts chip).full
+abbrev pub full_code : Option Chip → List ℕ → Bool
+full_code None image = false
+full_code (Some chip) image = (facts chip).coded and byte image (facts chip).counter is (facts chip).full
 
 -- the image is one of the card; "With no card the image is not looked at"
-abbrev pub image_is_card : Holds → List ℕ → Bool
-image_is_card Empty image = true
-image_is_card (Card chip) image = is_card (facts chip) image
+abbrev pub image_is_card : Option Chip → List ℕ → Bool
+image_is_card None image = true
+image_is_card (Some chip) image = is_card (facts chip) image
 
 -- "page size is 8, 16, 32, 64 or 128"
 unfoldable pub page_size : ℕ → Bool
@@ -42,7 +41,7 @@ unfoldable pub open_sound : Slot → List ℕ → Bool
 open_sound s image = s.«open» means full_code s.holds image and s.selected is own_type s.holds
 
 -- "number 4 is also given when 61h would not take the stored set, or with no card it is not the default"
-unfoldable pub set_sound : Holds → ℕ → Bool
+unfoldable pub set_sound : Option Chip → ℕ → Bool
 set_sound h set = takes set and (not (occupied h) means set is default_set)
 
 -- "number 4 is also given when a stored count differs from the image's, or with no card is not 0"

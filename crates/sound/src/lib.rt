@@ -6,15 +6,14 @@ ghost use Rattle.std.specs.Prelude.{◌≡◌, true};
 ghost use Rattle.words.specs.Choice.{◌and◌};
 ghost use Rattle.sound.specs.Sound.{full_code, image_is_card, page_size, empty_sound, idle_sound, type_sound, open_sound, set_sound, counts_sound, sound};
 
-use slot::{Holds, Slot};
+use slot::Slot;
 use words::byte_at;
 
 // Whether the card is a code card with a full counter.
 fn full_code(slot: Slot, image: &[u8]) -> bool
     ensures { result ≡ full_code slot.holds image.now }
 {
-    let holds = slot.holds;
-    let Holds::Card(chip) = holds else {
+    let Some(chip) = slot.holds else {
         return false;
     };
     if !chip.facts().coded {
@@ -27,8 +26,7 @@ fn full_code(slot: Slot, image: &[u8]) -> bool
 pub fn fits(slot: Slot, image: &[u8]) -> bool
     ensures { result ≡ image_is_card slot.holds image.now }
 {
-    let holds = slot.holds;
-    let Holds::Card(chip) = holds else {
+    let Some(chip) = slot.holds else {
         return true;
     };
     card::is_card(chip, image)
@@ -148,8 +146,7 @@ fn counts_stand(slot: Slot, image: &[u8]) -> bool
     requires { image_is_card slot.holds image.now ≡ true }
     ensures { result ≡ counts_sound slot image.now }
 {
-    let holds = slot.holds;
-    let Holds::Card(chip) = holds else {
+    let Some(chip) = slot.holds else {
         if slot.tries != 0 {
             return false;
         }

@@ -5,12 +5,11 @@ use mathlib.Core.Bool.{true, false}
 use mathlib.Core.List.{List, [], ◌∷◌}
 use lib.IntN.{ℤ, pos, negsuc}
 use borrow.Author.Tests.{eq-eqb, not-true}
+use Rattle.std.specs.Prelude.{Result, Ok, Err}
 use Rattle.words.specs.Bytes.{eight_at}
 use Rattle.words.proofs.Choices.{both, no_test}
 use Rattle.words.proofs.Lists.{same_of}
 use Rattle.record.specs.Raw.{raw_of, slot_with, card_with, slot_of}
-use Rattle.frame.specs.declared.Verdict.{Verdict}
-use Rattle.reader.specs.declared.Meant.{Meant}
 use Rattle.reader.specs.Fronts.{front_of}
 use Rattle.reader.specs.Rules.{rules}
 use Rattle.calls.specs.Calls.{RawOutcome, keeping, broken_as, raw_served, raw_fronted, raw_exchange, raw_insertion, raw_removal, RawGives}
@@ -19,18 +18,19 @@ use Rattle.vectors.specs.Plain.{image4418}
 use Rattle.wrong.specs.WrongRecords.{RawWitness, by_raw_message, by_raw_insertion, by_raw_removal, by_result, like_raw, like_result, raw_caught, raw_uncaught}
 use Rattle.wrong.specs.WrongRecords.{RawApart, RawRefuted, EachRawRefuted, wrong_records, raw_tests, fronted_by, record_by}
 use Rattle.wrong.proofs.Caught.{answer_met, none_left}
+use Rattle.frame.specs.declared.Refusal.{Refusal}
 
 -- the record read by our own reading is our reader
 pub record_ours : (r image m : List ℕ) (room : ℕ) → record_by slot_of r image m room ≡ raw_exchange r image m room
 unfolding record_by raw_exchange
 record_ours r image m room = go (front_of m room)
   where
-    go : (x : Meant) → fronted_by x (slot_of r) r image m ≡ raw_fronted x r image m
-    go (Meant.Refused f) = refl
-    go (Meant.Slot n) = refl
+    go : (x : Result ℕ Refusal) → fronted_by x (slot_of r) r image m ≡ raw_fronted x r image m
+    go (Err f) = refl
+    go (Ok n) = refl
 
 -- ---- one verdict, record, image and buffer meet one outcome
-raw_alike : (o p : RawOutcome) (v : Verdict) (left next was holds : List ℕ) → RawGives o v left next was holds → RawGives p v left next was holds
+raw_alike : (o p : RawOutcome) (v : Result ℕ Refusal) (left next was holds : List ℕ) → RawGives o v left next was holds → RawGives p v left next was holds
     → like_raw o p ≡ true
 unfolding like_raw
 raw_alike o p v left next was holds g h =

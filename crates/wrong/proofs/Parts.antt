@@ -7,17 +7,14 @@ use mathlib.Core.List.{List, [], ◌∷◌}
 use native.Mathlib.Nat.{zero-add}
 use lib.ListN.{length}
 use borrow.Author.Tests.{eqb-true, not-true, not-false}
+use Rattle.std.specs.Prelude.{Option, Some, None}
 use Rattle.words.specs.Choice.{◌⇒◌⁏◌, ◌and◌, ◌or◌, ◌is◌, ◌isnt◌}
 use Rattle.words.specs.Bytes.{byte, same}
 use Rattle.words.proofs.Choices.{either, past, first, rest, and_true, same_choice, never, no_test}
 use Rattle.chips.specs.declared.Chip.{Chip}
-use Rattle.chips.specs.declared.Known.{Known}
-use Rattle.chips.specs.declared.Known.TheVariants.{Is, Unknown}
 use Rattle.chips.specs.declared.Facts.{Facts}
 use Rattle.chips.specs.Kinds.{facts, chip_of}
 use Rattle.sets.specs.Sets.{fault_at, set_of}
-use Rattle.slot.specs.declared.Holds.{Holds}
-use Rattle.slot.specs.declared.Holds.TheVariants.{Empty, Card}
 use Rattle.slot.specs.declared.Slot.{Slot}
 use Rattle.counts.specs.Counts.{put_in}
 use Rattle.card.specs.Images.{is_card}
@@ -133,9 +130,9 @@ refusing_ours s i m room = go (tested s i m room)
     go (passed e) = rest _ _ (ap not e)
 
 -- an image that is none of the card in the slot
-no_card : (h : Holds) (i : List ℕ) → image_is_card h i ≡ false → is_card (card_in h) i ≡ false
-no_card Empty i e = absurd (true≢false e)
-no_card (Card chip) i e = e
+no_card : (h : Option Chip) (i : List ℕ) → image_is_card h i ≡ false → is_card (card_in h) i ≡ false
+no_card None i e = absurd (true≢false e)
+no_card (Some chip) i e = e
 
 pub taking_ours : Ours (taking is_card)
 unfolding taking reply replied ◌and◌ ◌⇒◌⁏◌
@@ -151,11 +148,11 @@ taking_ours s i m room = go (tested s i m room)
 
 -- ---- commands
 -- a reader whose commands do what the rules say is ours
-commanding_on_lem : (h : Holds) (does : Facts → Slot → List ℕ → List ℕ → Deed) (s : Slot) (i m : List ℕ) (room : ℕ) → s.holds ≡ h
+commanding_on_lem : (h : Option Chip) (does : Facts → Slot → List ℕ → List ℕ → Deed) (s : Slot) (i m : List ℕ) (room : ℕ) → s.holds ≡ h
     → ((f : Facts) (d : List ℕ) → does f s i d ≡ commanded f s i d) → commanding_on h does s i m room ≡ exchange s i m room
 unfolding commanding_on commanded
-commanding_on_lem Empty does s i m room h e = refl
-commanding_on_lem (Card chip) does s i m room h e =
+commanding_on_lem None does s i m room h e = refl
+commanding_on_lem (Some chip) does s i m room h e =
     either (λ (o : Outcome). o ≡ exchange s i m room) _
     (λ c.
     let t = and_true _ _ c in
@@ -264,16 +261,16 @@ data Put (chip : Chip) (s : Slot) (image : List ℕ) : Outcome → Type 0 where
   other : is_card (facts chip) image ≡ false → Put chip s image (turned_down Refusal.Image s image)
   taken : Put chip s image (record { number = 0; answer = []; slot = put_in chip image; image = image })
 
-put : (chip : Chip) (s : Slot) (kind : ℕ) (i : List ℕ) → chip_of kind ≡ Is chip → Put chip s i (insertion s kind i)
+put : (chip : Chip) (s : Slot) (kind : ℕ) (i : List ℕ) → chip_of kind ≡ Some chip → Put chip s i (insertion s kind i)
 unfolding insertion inserted_as
 put chip s kind i e =
     past (Put chip s i) _ occupied (λ _.
-    subst⁻¹ (λ (k : Known). Put chip s i (inserted_as k s i)) e (either (Put chip s i) _ (λ _. taken) (λ h. other h)))
+    subst⁻¹ (λ (k : Option Chip). Put chip s i (inserted_as k s i)) e (either (Put chip s i) _ (λ _. taken) (λ h. other h)))
 
-inserts_as_lem : (k : Known) (s : Slot) (kind : ℕ) (i : List ℕ) → chip_of kind ≡ k → inserts_as k is_card s kind i ≡ insertion s kind i
+inserts_as_lem : (k : Option Chip) (s : Slot) (kind : ℕ) (i : List ℕ) → chip_of kind ≡ k → inserts_as k is_card s kind i ≡ insertion s kind i
 unfolding inserts_as ◌and◌ ◌⇒◌⁏◌
-inserts_as_lem Unknown s kind i e = refl
-inserts_as_lem (Is chip) s kind i e = go (put chip s kind i e)
+inserts_as_lem None s kind i e = refl
+inserts_as_lem (Some chip) s kind i e = go (put chip s kind i e)
   where
     go : {o : Outcome} → Put chip s i o
         → (o.number is 3 and is_card (facts chip) i ⇒ record { number = 0; answer = []; slot = put_in chip i; image = i } ⁏ o) ≡ o

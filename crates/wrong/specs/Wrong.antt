@@ -1,16 +1,12 @@
 -- Wrong readers: what one is, and our reader with one part put wrong. A wrong reader is a definition as short as its fault is in words.
-use Rattle.std.specs.Prelude.{ℕ, ◌+◌, ◌-◌, Bool, true, false, not, List, [], ◌∷◌, ◌++◌, length, take, drop, set, ltb}
+use Rattle.std.specs.Prelude.{ℕ, ◌+◌, ◌-◌, Bool, true, false, not, List, [], ◌∷◌, ◌++◌, length, take, drop, set, ltb, Option, Some, None}
 use Rattle.words.specs.Choice.{◌⇒◌⁏◌, ◌and◌, ◌or◌, ◌is◌, ◌isnt◌}
 use Rattle.words.specs.Bytes.{byte, same, four_bytes}
 use Rattle.codes.specs.Codes.{code_in}
 use Rattle.chips.specs.declared.Chip.{Chip}
-use Rattle.chips.specs.declared.Known.{Known}
-use Rattle.chips.specs.declared.Known.TheVariants.{Is, Unknown}
 use Rattle.chips.specs.declared.Facts.{Facts}
 use Rattle.chips.specs.Kinds.{facts, i2c, chip_of}
 use Rattle.sets.specs.Sets.{set_of}
-use Rattle.slot.specs.declared.Holds.{Holds}
-use Rattle.slot.specs.declared.Holds.TheVariants.{Empty, Card}
 use Rattle.slot.specs.declared.Slot.{Slot}
 use Rattle.counts.specs.Counts.{put_in}
 use Rattle.steps.specs.declared.Status.{Status}
@@ -94,9 +90,9 @@ recounts e = stands (recounted e.image e.slot) e
 
 -- ---- our reader with one part put wrong. Each of these, given the rules' own part, is our reader (proofs/Parts).
 -- the card in the slot; nothing is a card of no bytes
-abbrev pub card_in : Holds → Facts
-card_in Empty = i2c 0 0 0 0
-card_in (Card chip) = facts chip
+abbrev pub card_in : Option Chip → Facts
+card_in None = i2c 0 0 0 0
+card_in (Some chip) = facts chip
 
 -- test 3 is passed by other images: those that `passes` takes too
 unfoldable pub taking : (Facts → List ℕ → Bool) → Reader
@@ -153,9 +149,9 @@ upon type change s image m room =
     ⁏ o
 
 -- what a transfer without a fault does with its pseudo-APDU is `does`
-unfoldable pub commanding_on : Holds → Doer → Reader
-commanding_on Empty does s image m room = exchange s image m room
-commanding_on (Card chip) does s image m room =
+unfoldable pub commanding_on : Option Chip → Doer → Reader
+commanding_on None does s image m room = exchange s image m room
+commanding_on (Some chip) does s image m room =
     heard s image (sent_with m room) and transfers (requested (sent_with m room)) ⇒ answered Transfer m Fault.Clear (does (facts chip) s image (apdu m))
     ⁏ exchange s image m room
 
@@ -285,9 +281,9 @@ abbrev pub counting : Facts → ℕ → Deed → Deed
 counting f c e = recounts (record { said = 0x90 ∷ c ∷ []; slot = e.slot; image = set e.image f.counter c })
 
 -- an insertion's test 3 is passed by other images: those that `passes` takes too
-unfoldable pub inserts_as : Known → (Facts → List ℕ → Bool) → Inserter
-inserts_as Unknown passes s kind image = insertion s kind image
-inserts_as (Is chip) passes s kind image =
+unfoldable pub inserts_as : Option Chip → (Facts → List ℕ → Bool) → Inserter
+inserts_as None passes s kind image = insertion s kind image
+inserts_as (Some chip) passes s kind image =
     let o = insertion s kind image in
     o.number is 3 and passes (facts chip) image ⇒ record { number = 0; answer = []; slot = put_in chip image; image = image }
     ⁏ o

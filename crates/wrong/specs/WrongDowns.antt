@@ -1,10 +1,8 @@
 -- Wrong readers of what is turned down without an answer, of insertion and of removal.
-use Rattle.std.specs.Prelude.{ℕ, ◌+◌, ◌-◌, Bool, true, false, not, List, [], ◌∷◌, ◌++◌, length, take, drop, set, replicate, leb, ltb}
+use Rattle.std.specs.Prelude.{ℕ, ◌+◌, ◌-◌, Bool, true, false, not, List, [], ◌∷◌, ◌++◌, length, take, drop, set, replicate, leb, ltb, Option, Some, None}
 use Rattle.words.specs.Choice.{◌⇒◌⁏◌, ◌and◌, ◌or◌, ◌means◌, ◌is◌, ◌isnt◌}
 use Rattle.words.specs.Bytes.{byte, blank}
 use Rattle.bits.specs.Bits.{is_protected}
-use Rattle.chips.specs.declared.Known.{Known}
-use Rattle.chips.specs.declared.Known.TheVariants.{Is, Unknown}
 use Rattle.chips.specs.declared.Facts.{Facts}
 use Rattle.chips.specs.Kinds.{chip_of}
 use Rattle.slot.specs.declared.Slot.{Slot}
@@ -13,6 +11,7 @@ use Rattle.sound.specs.Sound.{full_code, image_is_card, page_size, empty_sound, 
 use Rattle.frame.specs.declared.Refusal.{Refusal}
 use Rattle.frame.specs.Exchange.{turned_down, exchange, insertion}
 use Rattle.wrong.specs.Wrong.{recounting, Reader, Inserter, Remover, numbering, saying, slotting, imaging, card_in, taking, vetting, inserts_by, upon_insert}
+use Rattle.chips.specs.declared.Chip.{Chip}
 
 -- ---- numbers 1 and 2
 -- takes an answer buffer of 270 bytes
@@ -188,9 +187,9 @@ kind_first s kind image = (insertion removed kind image).number is 3 ⇒ turned_
 abbrev pub vets_slot : Inserter
 vets_slot s kind image = not (occupied s.holds) and not (sound s image) ⇒ turned_down Refusal.Record s image ⁏ insertion s kind image
 
-abbrev pub known_or1 : Known → ℕ → ℕ
-known_or1 (Is chip) kind = kind
-known_or1 Unknown kind = 1
+abbrev pub known_or1 : Option Chip → ℕ → ℕ
+known_or1 (Some chip) kind = kind
+known_or1 None kind = 1
 
 -- takes an unknown kind for kind 1
 abbrev pub any_kind : Inserter

@@ -1,21 +1,17 @@
 -- Wrong readers of a raw record, each as short as its fault, with an input at which it gives something else than the rules: messages,
 -- insertions and removals on 32 bytes, and the one number that C gets.
-use Rattle.std.specs.Prelude.{ℕ, ◌+◌, ◌≡◌, Bool, false, not, List, [], ◌∷◌, ◌++◌, length, take, drop, set, replicate, ltb, ℤ, pos, negsuc}
+use Rattle.std.specs.Prelude.{ℕ, ◌+◌, ◌≡◌, Bool, false, not, List, [], ◌∷◌, ◌++◌, length, take, drop, set, replicate, ltb, ℤ, pos, negsuc, Option, Result, Some, None, Ok, Err}
 use Rattle.std.proofs.lemmas.List.Edits.{sets}
 use Rattle.words.specs.Choice.{◌⇒◌⁏◌, ◌and◌, ◌is◌, ◌isnt◌}
 use Rattle.words.specs.Bytes.{byte, same, low_first}
 use Rattle.words.specs.Bounds.{least_room}
 use Rattle.chips.specs.declared.Chip.TheVariants.{I2c1, Sle4418, Sle4442}
-use Rattle.chips.specs.declared.Known.{Known}
-use Rattle.chips.specs.declared.Known.TheVariants.{Is, Unknown}
 use Rattle.chips.specs.Kinds.{chip_of}
 use Rattle.sets.specs.Sets.{default_set}
 use Rattle.slot.specs.Slots.{removed, page_as}
-use Rattle.record.specs.declared.Reading.{Reading}
+use Rattle.record.specs.declared.Flaw.{Flaw}
 use Rattle.record.specs.Raw.{raw_of, slot_of}
 use Rattle.frame.specs.declared.Refusal.{Refusal}
-use Rattle.frame.specs.declared.Verdict.{Verdict}
-use Rattle.reader.specs.declared.Meant.{Meant}
 use Rattle.reader.specs.Fronts.{front_of}
 use Rattle.calls.specs.Calls.{RawOutcome, raw_down, raw_served, raw_exchange, raw_insertion, raw_removal, RawGives, result_of}
 use Rattle.vectors.specs.Sessions.{recounted, fresh, image4442, wrong4442}
@@ -25,6 +21,7 @@ use Rattle.wrong.specs.ParamRows.{good1, stored}
 use Rattle.wrong.specs.CountRows.{kept255}
 use Rattle.wrong.specs.PageRows.{chosen_i2c}
 use Rattle.wrong.specs.Inputs.{bare, shut, wide, mem4442, kept4442, mem_i2c, plain, ask}
+use Rattle.chips.specs.declared.Chip.{Chip}
 
 -- ---- what a reader of a raw record is: of a message (record, image, message, length of the answer buffer), of an insertion, of a removal; and
 -- what C gets of a refusal's number and an answer's length
@@ -52,11 +49,11 @@ abbrev pub raw_marking : ℕ → ℕ → RawOutcome → RawOutcome
 raw_marking k v o = rawing (set o.raw k v) o
 
 -- the record is read by `reads`; given `slot_of`, it is our reader (proofs/CaughtRecords)
-abbrev pub fronted_by : Meant → Reading → List ℕ → List ℕ → List ℕ → RawOutcome
-fronted_by (Meant.Refused f) x r image m = raw_down f r image
-fronted_by (Meant.Slot n) x r image m = raw_served x r image m
+abbrev pub fronted_by : Result ℕ Refusal → Result Slot Flaw → List ℕ → List ℕ → List ℕ → RawOutcome
+fronted_by (Err f) x r image m = raw_down f r image
+fronted_by (Ok n) x r image m = raw_served x r image m
 
-unfoldable pub record_by : (List ℕ → Reading) → RawReader
+unfoldable pub record_by : (List ℕ → Result Slot Flaw) → RawReader
 record_by reads r image m room = fronted_by (front_of m room) (reads r) r image m
 
 -- a message that is answered leaves another record: what `change` makes of the one before and the outcome
@@ -150,19 +147,19 @@ raw_flag_first r image m room = let o = raw_exchange r image m room in o.number 
 
 -- takes kind 0 for an unknown kind
 abbrev pub raw_none_unknown : RawReader
-raw_none_unknown = record_by λ r. byte r 0 is 0 ⇒ Reading.Unknown ⁏ slot_of r
+raw_none_unknown = record_by λ r. byte r 0 is 0 ⇒ (Err Flaw.Unknown) ⁏ slot_of r
 
-abbrev pub known_or0 : Known → ℕ → ℕ
-known_or0 (Is chip) kind = kind
-known_or0 Unknown kind = 0
+abbrev pub known_or0 : Option Chip → ℕ → ℕ
+known_or0 (Some chip) kind = kind
+known_or0 None kind = 0
 
 -- takes an unknown kind for none
 abbrev pub raw_unknown_none : RawReader
 raw_unknown_none = record_by λ r. slot_of (set r 0 (known_or0 (chip_of (byte r 0)) (byte r 0)))
 
-abbrev pub or_down4 : Known → RawOutcome → RawOutcome
-or_down4 (Is chip) o = o
-or_down4 Unknown o = o.number is 3 ⇒ raw_numbering 4 o ⁏ o
+abbrev pub or_down4 : Option Chip → RawOutcome → RawOutcome
+or_down4 (Some chip) o = o
+or_down4 None o = o.number is 3 ⇒ raw_numbering 4 o ⁏ o
 
 -- gives number 4 for an unknown kind
 abbrev pub raw_unknown4 : RawReader
@@ -339,7 +336,7 @@ raw_uncaught k (w ∷ ws) = let later = raw_uncaught (k + 1) ws in raw_caught w 
 
 -- no code is that reader and meets the contract: no verdict, record, image and answer buffer are what both outcomes say
 abbrev pub RawApart : RawOutcome → RawOutcome → Type 0
-RawApart o p = (v : Verdict) (left next was holds : List ℕ) → RawGives o v left next was holds → RawGives p v left next was holds → ⊥
+RawApart o p = (v : Result ℕ Refusal) (left next was holds : List ℕ) → RawGives o v left next was holds → RawGives p v left next was holds → ⊥
 
 abbrev pub RawRefuted : RawWitness → Type 0
 RawRefuted (by_raw_message w r image m) = RawApart (w r image m least_room) (raw_exchange r image m least_room)

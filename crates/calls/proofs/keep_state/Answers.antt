@@ -1,18 +1,19 @@
 -- `keep_state` meets its contract: an answer writes bytes 1 to 12, a refusal leaves the record.
 use mathlib.Core.Path.{refl, sym, ap, ◌∙◌}
 use native.Mathlib.Omega.{arith}
+use Rattle.std.specs.Prelude.{Result}
 use Rattle.words.specs.Choice.{◌is◌}
 use Rattle.words.proofs.Choices.{met, passed}
 use Rattle.record.proofs.RawLaws.{rest_long, state_written}
-use Rattle.frame.specs.declared.Verdict.{Verdict}
 use Rattle.frame.specs.Exchange.{number}
 use Rattle.calls.specs.Calls.{keeping}
 use Rattle.calls.proofs.CallLaws.{number_not}
 use Rattle.calls.proofs.keep_state.Goals as goal
+use Rattle.frame.specs.declared.Refusal.{Refusal}
 
 pub returns-in_default : goal.returns-in_default
 unfolding keeping
-returns-in_default c = (refl, passed _ (ap (λ (v : Verdict). number v is 0) c.in_default.is ∙ number_not c.in_default.field-0) refl)
+returns-in_default c = (refl, passed _ (ap (λ (v : Result ℕ Refusal). number v is 0) c.in_default.is ∙ number_not c.in_default.field-0) refl)
 
 pub write_state-requires : goal.write_state-requires
 write_state-requires c = omega (arith, rest_long c.args.raw.now c.requires.1)
@@ -24,5 +25,5 @@ returns c =
     let p = c.requires in
     let e = c.in-Answered.is in (
       sym e,
-      met _ (ap (λ (v : Verdict). number v is 0) e) (c.write_state.ensures ∙ state_written a.raw.now a.reply.slot p.0 p.1),
+      met _ (ap (λ (v : Result ℕ Refusal). number v is 0) e) (c.write_state.ensures ∙ state_written a.raw.now a.reply.slot p.0 p.1),
     )

@@ -6,11 +6,12 @@ use lib.IntN.{pos, ◌-ℤ◌}
 use mir.Syntax.{w32}
 use mir.Val.{SFits, to_z, of_z}
 use mir.ValLaws.{to_z_pos}
-use Rattle.frame.specs.declared.Verdict.{Verdict}
+use Rattle.std.specs.Prelude.{Result}
 use Rattle.frame.specs.Exchange.{number, answer_length}
 use Rattle.calls.specs.Calls.{result_of}
 use Rattle.card_reader.proofs.Results.{minus_fits, minus_told}
 use Rattle.card_reader.proofs.result_of.Goals as goal
+use Rattle.frame.specs.declared.Refusal.{Refusal}
 
 pub overflow_cast-result : goal.overflow_cast-result
 overflow_cast-result c =
@@ -24,10 +25,10 @@ pub returns-in-Answered : goal.returns-in-Answered
 returns-in-Answered c =
     let n = c.in-Answered.len in
     let e : answer_length c.args.verdict ≡ n = ap answer_length c.in-Answered.is in
-    to_z_pos w32 n (omega (arith, e, c.requires)) ∙ sym (ap (λ (v : Verdict). result_of (number v) (answer_length v)) c.in-Answered.is)
+    to_z_pos w32 n (omega (arith, e, c.requires)) ∙ sym (ap (λ (v : Result ℕ Refusal). result_of (number v) (answer_length v)) c.in-Answered.is)
 
 pub returns-in-Refused : goal.returns-in-Refused
 returns-in-Refused c =
     ap (λ (n : ℕ). to_z w32 (of_z w32 (pos 0 -ℤ to_z w32 n))) c.number.ensures.0
     ∙ minus_told c.in-Refused.refusal
-    ∙ sym (ap (λ (v : Verdict). result_of (number v) (answer_length v)) c.in-Refused.is)
+    ∙ sym (ap (λ (v : Result ℕ Refusal). result_of (number v) (answer_length v)) c.in-Refused.is)

@@ -5,11 +5,11 @@ use native.Mathlib.Omega.{arith}
 use Prim.Native.Nat.{ℕ, ◌-◌}
 use lib.ListN.{length, take, drop, length-drop}
 use mathlib.Core.List.{List}
+use Rattle.std.specs.Prelude.{Option, Some}
 use Rattle.words.specs.Choice.{◌⇒◌⁏◌}
 use Rattle.words.proofs.Lists.{lent_tail, tail_is}
 use Rattle.chips.specs.Kinds.{facts}
 use Rattle.card.proofs.ImageLaws.{card_parts}
-use Rattle.slot.specs.declared.Holds.{Holds}
 use Rattle.counts.specs.Counts.{protected_of}
 use Rattle.counts.proofs.CardLaws.{protected_card}
 use Rattle.sound.specs.Sound.{image_is_card}
@@ -19,6 +19,7 @@ use Rattle.frame.specs.Exchange.{deed}
 use Rattle.frame.proofs.AnswerLaws.{gives_failed, gives_done, gives_quiet, sealed_slot, sealed_clear, names_0}
 use borrow.Author.Rules.{rules}
 use Rattle.dispatch.proofs.transfer.Goals as goal
+use Rattle.chips.specs.declared.Chip.{Chip}
 
 pub returns-then-not-is_clear : goal.returns-then-not-is_clear
 unfolding request_of ◌⇒◌⁏◌
@@ -32,19 +33,19 @@ unfolding deed request_of ◌⇒◌⁏◌
 returns-in_default c =
     gives_quiet Transfer c.args.slot c.args.image.now c.args.msg.now c.fault_of-fault.ensures
     c.args.answer.now c.args.slot (sym c.is_clear.ensures ∙ c.if-not-is_clear.false)
-    (ap (λ (h : Holds). deed Transfer h c.args.slot c.args.image.now c.args.msg.now) c.in_default.is)
+    (ap (λ (h : Option Chip). deed Transfer h c.args.slot c.args.image.now c.args.msg.now) c.in_default.is)
     (omega arith) c.seal-in_default.ensures
 
 pub command-told-requires : goal.command-told-requires
 command-told-requires c =
     let a = c.args in
-    let e : image_is_card (Holds.Card c.in-Card.chip) a.image.now ≡ true =
-    subst (λ (h : Holds). image_is_card h a.image.now ≡ true) c.in-Card.is c.requires.2 in
+    let e : image_is_card (Some c.in-Some.chip) a.image.now ≡ true =
+    subst (λ (h : Option Chip). image_is_card h a.image.now ≡ true) c.in-Some.is c.requires.2 in
     let long = (card_parts _ a.image.now e).long in (
       rw (tail_is 10 a.answer.now) (omega (arith, length-drop 10 a.answer.now, c.requires.1)),
       long,
       c.requires.3,
-      c.requires.4 ∙ ap (λ (h : Holds). protected_of h a.image.now) c.in-Card.is ∙ protected_card c.in-Card.chip a.image.now long,
+      c.requires.4 ∙ ap (λ (h : Option Chip). protected_of h a.image.now) c.in-Some.is ∙ protected_card c.in-Some.chip a.image.now long,
     )
 
 pub seal_done-requires : goal.seal_done-requires
@@ -59,7 +60,7 @@ pub returns : goal.returns
 unfolding deed request_of ◌⇒◌⁏◌
 returns c =
     let a = c.args in
-    let f = facts c.in-Card.chip in
+    let f = facts c.in-Some.chip in
     let im : List ℕ = a.image.now in
     let m : List ℕ = a.msg.now in
     let g : Does (commanded f a.slot im (apdu m)) c.command-told.result c.command-told.new.image
@@ -69,6 +70,6 @@ returns c =
     c.command-told.ensures.does in
     gives_done Transfer a.slot im m c.fault_of-fault.ensures a.answer.now (commanded f a.slot im (apdu m))
     (sym c.is_clear.ensures ∙ c.if-not-is_clear.false)
-    (ap (λ (h : Holds). deed Transfer h a.slot im m) c.in-Card.is)
+    (ap (λ (h : Option Chip). deed Transfer h a.slot im m) c.in-Some.is)
     g.len (omega (arith, c.requires.1)) (lent_tail 10 a.answer.now (commanded f a.slot im (apdu m)).said g.out) g.image
     (sealed_slot g.slot (sealed_clear (sym c.is_clear.ensures ∙ c.if-not-is_clear.false) c.seal_done.ensures))

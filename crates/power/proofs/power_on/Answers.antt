@@ -5,11 +5,11 @@ use mathlib.Core.List.{List}
 use native.Mathlib.Omega.{arith}
 use Prim.Native.Nat.{ℕ}
 use lib.ListN.{length-drop}
+use Rattle.std.specs.Prelude.{Option, Some}
 use Rattle.words.specs.Choice.{◌⇒◌⁏◌}
 use Rattle.words.proofs.Lists.{lent_tail, tail_is}
 use Rattle.chips.specs.Kinds.{facts}
 use Rattle.card.proofs.ImageLaws.{card_parts}
-use Rattle.slot.specs.declared.Holds.{Holds}
 use Rattle.slot.specs.Slots.{powered, defaulted}
 use Rattle.sound.specs.Sound.{image_is_card}
 use Rattle.orders.specs.Orders.{Deed}
@@ -18,6 +18,7 @@ use Rattle.frame.specs.Exchange.{reset, deed}
 use Rattle.frame.proofs.AnswerLaws.{gives_failed, gives_quiet, gives_done, sealed_slot, sealed_clear, names_0}
 use borrow.Author.Rules.{rules}
 use Rattle.power.proofs.power_on.Goals as goal
+use Rattle.chips.specs.declared.Chip.{Chip}
 
 pub returns-then-not-is_clear : goal.returns-then-not-is_clear
 unfolding request_of ◌⇒◌⁏◌
@@ -32,14 +33,14 @@ unfolding deed request_of ◌⇒◌⁏◌
 returns-in_default c =
     let a = c.args in
     let clear = sym c.is_clear.ensures ∙ c.if-not-is_clear.false in
-    let none = ap (λ (h : Holds). deed PowerOn h a.slot a.image.now a.msg.now) c.in_default.is in
+    let none = ap (λ (h : Option Chip). deed PowerOn h a.slot a.image.now a.msg.now) c.in_default.is in
     gives_quiet PowerOn a.slot a.image.now a.msg.now c.fault_of-fault.ensures a.answer.now a.slot clear none (omega arith)
     c.seal-in_default.ensures
 
 pub answer_to_reset-len-requires : goal.answer_to_reset-len-requires
 answer_to_reset-len-requires c =
     let a = c.args in
-    let e : image_is_card (Holds.Card c.in-Card.chip) a.image.now ≡ true = subst (λ (h : Holds). image_is_card h a.image.now ≡ true) c.in-Card.is c.requires.2 in
+    let e : image_is_card (Some c.in-Some.chip) a.image.now ≡ true = subst (λ (h : Option Chip). image_is_card h a.image.now ≡ true) c.in-Some.is c.requires.2 in
     ((card_parts _ a.image.now e).long, rw (tail_is 10 a.answer.now) (omega (arith, length-drop 10 a.answer.now, c.requires.1)))
 
 pub seal_done-requires : goal.seal_done-requires
@@ -56,11 +57,11 @@ pub returns : goal.returns
 unfolding deed request_of ◌⇒◌⁏◌
 returns c =
     let a = c.args in
-    let f = facts c.in-Card.chip in
+    let f = facts c.in-Some.chip in
     let im : List ℕ = a.image.now in
     let d : Deed = record { said = reset f im; slot = defaulted (powered true a.slot); image = im } in
     let clear = sym c.is_clear.ensures ∙ c.if-not-is_clear.false in
-    let does = ap (λ (h : Holds). deed PowerOn h a.slot im a.msg.now) c.in-Card.is in
+    let does = ap (λ (h : Option Chip). deed PowerOn h a.slot im a.msg.now) c.in-Some.is in
     let told = c.answer_to_reset-len.ensures in
     let next = c.reset_set-next.ensures ∙ ap defaulted c.power.ensures in
     gives_done PowerOn a.slot im a.msg.now c.fault_of-fault.ensures a.answer.now d clear does told.0

@@ -1,21 +1,22 @@
 -- `message` meets its contract: tests 1 and 2, and then what the slot does.
 use mathlib.Core.Path.{◌≡◌, sym, ap, ◌∙◌}
 use lib.ListN.{length}
+use Rattle.std.specs.Prelude.{Result}
 use Rattle.frame.specs.Exchange.{exchange}
 use Rattle.frame.proofs.AnswerLaws.{gives_is, gives_down}
-use Rattle.reader.specs.declared.Meant.{Meant}
 use Rattle.reader.specs.Fronts.{fronted}
 use Rattle.reader.proofs.Fronting.{exchange_fronted, slot_meant}
 use Rattle.reader.proofs.message.Goals as goal
 use Rattle.reader.proofs.message.Goals.{After-front-meant}
+use Rattle.frame.specs.declared.Refusal.{Refusal}
 
 -- the exchange is what comes of the front
-by_front : (c : After-front-meant) (x : Meant) → c.front-meant.result ≡ x → let a = c.args in
+by_front : (c : After-front-meant) (x : Result ℕ Refusal) → c.front-meant.result ≡ x → let a = c.args in
     exchange a.slot a.image.now a.msg.now (length a.answer.now) ≡ fronted x a.slot a.image.now a.msg.now
 by_front c x e =
     let a = c.args in
     exchange_fronted a.slot a.image.now a.msg.now (length a.answer.now)
-    ∙ ap (λ (y : Meant). fronted y a.slot a.image.now a.msg.now) (sym c.front-meant.ensures ∙ e)
+    ∙ ap (λ (y : Result ℕ Refusal). fronted y a.slot a.image.now a.msg.now) (sym c.front-meant.ensures ∙ e)
 
 pub serve-requires : goal.serve-requires
 serve-requires c =

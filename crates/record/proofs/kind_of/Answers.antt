@@ -4,5 +4,5 @@ use Rattle.chips.specs.declared.Facts.{Facts}
 use Rattle.record.specs.Raw.{kind_of}
 use Rattle.record.proofs.kind_of.Goals as goal
 
-pub returns-in-Card : goal.returns-in-Card
-returns-in-Card c = ap (λ (f : Facts). f.kind) c.facts.ensures ∙ sym (ap kind_of c.in-Card.is)
+pub returns-in-Some : goal.returns-in-Some
+returns-in-Some c = ap (λ (f : Facts). f.kind) c.facts.ensures ∙ sym (ap kind_of c.in-Some.is)

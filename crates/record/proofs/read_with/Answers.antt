@@ -4,11 +4,12 @@ use mathlib.Core.Bool.{not}
 use native.Mathlib.Omega.{arith}
 use Prim.Native.Nat.{ℕ, ◌+◌, ◌*◌}
 use borrow.Author.Tests.{eq-eqb, ne_eqb, lt-ltb, le-ltb}
+use Rattle.std.specs.Prelude.{Ok}
 use Rattle.words.specs.Choice.{◌is◌}
 use Rattle.words.specs.Bytes.{byte}
 use Rattle.words.proofs.Choices.{taken, passed}
 use Rattle.slot.specs.Slots.{slotted}
-use Rattle.record.specs.declared.Reading.{Reading}
+use Rattle.record.specs.declared.Flaw.{Flaw}
 use Rattle.record.specs.Raw.{slot_with}
 use Rattle.record.proofs.read_with.Goals as goal
 
@@ -63,6 +64,6 @@ returns c =
     (passed _ (le-ltb 1 _ c.if-open-gt1.false)
     (passed _ (le-ltb 1 _ c.if-chosen-gt1.false)
     (passed _ (ap not (sym c.is_blank.ensures ∙ c.if-not-is_blank.false))
-    (ap Reading.Found (c.of.ensures
+    (ap Ok (c.of.ensures
     ∙ ap (λ (set : ℕ). slotted a.holds (byte r 1 is 1) (byte r 2) (byte r 3) (byte r 4 is 1) set (byte r 13) (byte r 14 + 256 * byte r 15) (byte r 16 is 1))
     c.eight_at.ensures))))))

@@ -4,5 +4,5 @@ use Rattle.chips.specs.declared.Facts.{Facts}
 use Rattle.slot.specs.Slots.{own_type}
 use Rattle.slot.proofs.Slot.own_type.Goals as goal
 
-pub returns-in-Card : goal.returns-in-Card
-returns-in-Card c = ap (λ (f : Facts). f.selects) c.facts.ensures ∙ sym (ap own_type c.in-Card.is)
+pub returns-in-Some : goal.returns-in-Some
+returns-in-Some c = ap (λ (f : Facts). f.selects) c.facts.ensures ∙ sym (ap own_type c.in-Some.is)
