@@ -10,6 +10,7 @@ use Rattle.words.specs.Choice.{◌isnt◌}
 use Rattle.words.specs.Bytes.{byte}
 use Rattle.words.specs.Bounds.{longest_answer}
 use Rattle.words.proofs.Choices.{past}
+use Rattle.slot.specs.declared.Slot.{Slot}
 use Rattle.slot.specs.Slots.{removed}
 use Rattle.record.specs.declared.Flaw.{Flaw}
 use Rattle.record.specs.Raw.{slot_of}

@@ -25,7 +25,7 @@ pub returns-in_default : goal.returns-in_default
 unfolding insertion inserted_as
 returns-in_default c =
     let a = c.args in
-    let k : chip_of a.kind ≡ None = sym c.chip_of-known.ensures ∙ c.in_default.is in
+    let k : chip_of a.kind ≡ None = sym c.chip_of.ensures ∙ c.in_default.is in
     gives_is (rest _ _ (sym c.has_card.ensures ∙ c.if-has_card.false) ∙ ap (λ (x : Option Chip). inserted_as x a.slot a.image.now) k)
     (gives_down Refusal.Image a.slot a.image.now [] c.turn_down-in_default.ensures.0 c.turn_down-in_default.ensures.1)
 
@@ -33,7 +33,7 @@ pub returns-then-not-is_card : goal.returns-then-not-is_card
 unfolding insertion inserted_as
 returns-then-not-is_card c =
     let a = c.args in
-    let k = sym c.chip_of-known.ensures ∙ c.in-Some.is in
+    let k = sym c.chip_of.ensures ∙ c.in-Some.is in
     gives_is (rest _ _ (sym c.has_card.ensures ∙ c.if-has_card.false) ∙ ap (λ (x : Option Chip). inserted_as x a.slot a.image.now) k
     ∙ rest _ _ (sym c.is_card.ensures ∙ c.if-not-is_card.true))
     (gives_down Refusal.Image a.slot a.image.now [] c.turn_down-then-not-is_card.ensures.0 c.turn_down-then-not-is_card.ensures.1)
@@ -52,7 +52,7 @@ pub returns : goal.returns
 unfolding insertion inserted_as
 returns c =
     let a = c.args in
-    let k = sym c.chip_of-known.ensures ∙ c.in-Some.is in
+    let k = sym c.chip_of.ensures ∙ c.in-Some.is in
     let counted = c.insert-next.ensures ∙ ap₂ (inserted c.in-Some.chip) c.tries_in.ensures c.count_in.ensures in
     gives_is (rest _ _ (sym c.has_card.ensures ∙ c.if-has_card.false) ∙ ap (λ (x : Option Chip). inserted_as x a.slot a.image.now) k
     ∙ first _ _ (sym c.is_card.ensures ∙ c.if-not-is_card.false))
