@@ -10,6 +10,7 @@ use Rattle.chips.specs.Kinds.{chip_of}
 use Rattle.sets.specs.Sets.{default_set}
 use Rattle.slot.specs.Slots.{removed, page_as}
 use Rattle.record.specs.declared.Flaw.{Flaw}
+use Rattle.slot.specs.declared.Slot.{Slot}
 use Rattle.record.specs.Raw.{raw_of, slot_of}
 use Rattle.frame.specs.declared.Refusal.{Refusal}
 use Rattle.reader.specs.Fronts.{front_of}

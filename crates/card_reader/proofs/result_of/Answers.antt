@@ -15,20 +15,20 @@ use Rattle.frame.specs.declared.Refusal.{Refusal}
 
 pub overflow_cast-result : goal.overflow_cast-result
 overflow_cast-result c =
-    let e : answer_length c.args.verdict ≡ c.in-Answered.len = ap answer_length c.in-Answered.is in
+    let e : answer_length c.args.verdict ≡ c.in-Ok.len = ap answer_length c.in-Ok.is in
     record { sfits = omega (arith, e, c.requires) }
 
 pub overflow_sub-result : goal.overflow_sub-result
-overflow_sub-result c = subst⁻¹ (λ (n : ℕ). SFits w32 (pos 0 -ℤ to_z w32 n)) c.number.ensures.0 (minus_fits c.in-Refused.refusal)
+overflow_sub-result c = subst⁻¹ (λ (n : ℕ). SFits w32 (pos 0 -ℤ to_z w32 n)) c.number.ensures.0 (minus_fits c.in-Err.refusal)
 
-pub returns-in-Answered : goal.returns-in-Answered
-returns-in-Answered c =
-    let n = c.in-Answered.len in
-    let e : answer_length c.args.verdict ≡ n = ap answer_length c.in-Answered.is in
-    to_z_pos w32 n (omega (arith, e, c.requires)) ∙ sym (ap (λ (v : Result ℕ Refusal). result_of (number v) (answer_length v)) c.in-Answered.is)
+pub returns-in-Ok : goal.returns-in-Ok
+returns-in-Ok c =
+    let n = c.in-Ok.len in
+    let e : answer_length c.args.verdict ≡ n = ap answer_length c.in-Ok.is in
+    to_z_pos w32 n (omega (arith, e, c.requires)) ∙ sym (ap (λ (v : Result ℕ Refusal). result_of (number v) (answer_length v)) c.in-Ok.is)
 
-pub returns-in-Refused : goal.returns-in-Refused
-returns-in-Refused c =
+pub returns-in-Err : goal.returns-in-Err
+returns-in-Err c =
     ap (λ (n : ℕ). to_z w32 (of_z w32 (pos 0 -ℤ to_z w32 n))) c.number.ensures.0
-    ∙ minus_told c.in-Refused.refusal
-    ∙ sym (ap (λ (v : Result ℕ Refusal). result_of (number v) (answer_length v)) c.in-Refused.is)
+    ∙ minus_told c.in-Err.refusal
+    ∙ sym (ap (λ (v : Result ℕ Refusal). result_of (number v) (answer_length v)) c.in-Err.is)

@@ -9,7 +9,6 @@ use Rattle.words.specs.Choice.{◌is◌}
 use Rattle.words.specs.Bytes.{byte}
 use Rattle.words.proofs.Choices.{taken, passed}
 use Rattle.slot.specs.Slots.{slotted}
-use Rattle.record.specs.declared.Flaw.{Flaw}
 use Rattle.record.specs.Raw.{slot_with}
 use Rattle.record.proofs.read_with.Goals as goal
 

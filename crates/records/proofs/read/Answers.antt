@@ -59,17 +59,17 @@ unfolding record_at body_at
 returns-then-most-len c =
     let a = c.args in
     let n : ℕ = length_at a.input.now a.at in
-    let long : most c.in-Some.mark < n = omega (arith, length_is (goal.at.returns-then-most-len c).After-wide-4, c.most.ensures, c.if-most-len.true) in
-    marked_found (goal.at.returns-then-most-len c).After-mark_of-marked _ c.in-Some.is (taken _ (lt-ltb _ _ long))
+    let long : most c.in-Is.mark < n = omega (arith, length_is (goal.at.returns-then-most-len c).After-wide-4, c.most.ensures, c.if-most-len.true) in
+    marked_found (goal.at.returns-then-most-len c).After-mark_of-marked _ c.in-Is.is (taken _ (lt-ltb _ _ long))
 
 pub returns-then-input-start : goal.returns-then-input-start
 unfolding record_at body_at
 returns-then-input-start c =
     let a = c.args in
     let n : ℕ = length_at a.input.now a.at in
-    let small : n ≤ most c.in-Some.mark = omega (arith, length_is (goal.at.returns-then-input-start c).After-wide-4, c.most.ensures, c.if-most-len.false) in
+    let small : n ≤ most c.in-Is.mark = omega (arith, length_is (goal.at.returns-then-input-start c).After-wide-4, c.most.ensures, c.if-most-len.false) in
     let cut : length a.input.now - (a.at + 4) < n = omega (arith, length_is (goal.at.returns-then-input-start c).After-wide-4, c.if-input-start.true) in
-    marked_found (goal.at.returns-then-input-start c).After-mark_of-marked _ c.in-Some.is (passed _ (le-ltb _ _ small) (taken _ (lt-ltb _ _ cut)))
+    marked_found (goal.at.returns-then-input-start c).After-mark_of-marked _ c.in-Is.is (passed _ (le-ltb _ _ small) (taken _ (lt-ltb _ _ cut)))
 
 pub overflow_add-result : goal.overflow_add-result
 overflow_add-result c = omega (arith, c.wide-3.ensures.1, c.wide-4.ensures.1, c.if-input-start.false)
@@ -79,7 +79,7 @@ unfolding record_at body_at
 returns c =
     let a = c.args in
     let n : ℕ = length_at a.input.now a.at in
-    let small : n ≤ most c.in-Some.mark = omega (arith, length_is (goal.at.returns c).After-wide-4, c.most.ensures, c.if-most-len.false) in
+    let small : n ≤ most c.in-Is.mark = omega (arith, length_is (goal.at.returns c).After-wide-4, c.most.ensures, c.if-most-len.false) in
     let whole : n ≤ length a.input.now - (a.at + 4) = omega (arith, length_is (goal.at.returns c).After-wide-4, c.if-input-start.false) in
-    let ends = ap (λ (e : ℕ). Record.Whole c.in-Some.mark (a.at + 4) (a.at + 4 + e)) (length_is (goal.at.returns c).After-wide-4) in
-    marked_found (goal.at.returns c).After-mark_of-marked _ c.in-Some.is (passed _ (le-ltb _ _ small) (passed _ (le-ltb _ _ whole) ends))
+    let ends = ap (λ (e : ℕ). Record.Whole c.in-Is.mark (a.at + 4) (a.at + 4 + e)) (length_is (goal.at.returns c).After-wide-4) in
+    marked_found (goal.at.returns c).After-mark_of-marked _ c.in-Is.is (passed _ (le-ltb _ _ small) (passed _ (le-ltb _ _ whole) ends))

@@ -14,4 +14,4 @@ returns c =
     let a = c.args in
     let e : length c.message-reply.new.image ≡ a.size =
     c.message-reply.auto.image ∙ length-take-le a.size a.image.now (omega arith) in
-    leaves_message a.size a.image.now e c.message-reply.ensures c.number.ensures.0 c.len.ensures refl refl
+    leaves_message a.size a.image.now e c.message-reply.ensures c.number.ensures.0 c.answer_length.ensures refl refl
