@@ -1,11 +1,10 @@
 -- Laws of numbers in bytes, low first; and a test of every number below one, computed.
-use mathlib.Core.Path.{◌≡◌, refl, sym, ap, ap₂, ◌∙◌, subst}
+use mathlib.Core.Path.{◌≡◌, refl, sym, ap, ap₂, ◌∙◌}
 use mathlib.Core.List.{List, [], ◌∷◌, ◌++◌}
 use Prim.Native.Nat.{ℕ, zero, suc, ◌+◌, ◌-◌, ◌*◌, ◌/◌, ◌%◌, ◌^◌, ◌<◌}
-use native.Mathlib.Nat.{pow-suc, div-lt_iff_lt-mul, zero-lt-suc, mul_comm, div-div-eq-div-mul, one-le-pow, mod-eq_of_lt}
+use native.Mathlib.Nat.{pow-suc, zero-lt-suc, mul_comm, div-div-eq-div-mul, one-le-pow, mod-eq_of_lt}
 use native.Mathlib.Omega.{arith}
-use lib.ListN.{length, set}
-use lib.Seq.{sets}
+use lib.ListN.{length}
 use lib.Arith.{mod-mul}
 use lib.Dec.{ltb}
 use mathlib.Core.Bool.{Bool, true, false}

@@ -1,5 +1,5 @@
 -- `put_eight` meets its contract: the eight bytes of the number stand where they are put.
-use mathlib.Core.Path.{◌∙◌, refl}
+use mathlib.Core.Path.{◌∙◌}
 use native.Mathlib.Omega.{arith}
 use Rattle.words.specs.Bytes.{low_first}
 use Rattle.words.proofs.Lists.{mid_sets}
