@@ -30,19 +30,13 @@ fn lay_blocks<const N: usize>(src: &[u8], dst: &mut [u8])
     lay_block::<N>(src, dst, src.len() - N);
 }
 
-// Lays bytes over the front of a buffer, by the longest blocks of which there is one. The tests stand from the longest down: a `match` on ranges tests from 0 up.
-pub fn lay(src: &[u8], dst: &mut [u8])
-    requires { length src.now ≤ length dst.old }
+// Lays fewer than 16 bytes over the front of a buffer.
+fn lay_short(src: &[u8], dst: &mut [u8])
+    requires { (length src.now < 16) × (length src.now ≤ length dst.old) }
     ensures { dst.new ≡ over src.now dst.old }
 {
     let n = src.len();
-    if 64 <= n {
-        lay_blocks::<64>(src, dst)
-    } else if 32 <= n {
-        lay_blocks::<32>(src, dst)
-    } else if 16 <= n {
-        lay_blocks::<16>(src, dst)
-    } else if 8 <= n {
+    if 8 <= n {
         lay_blocks::<8>(src, dst)
     } else if 4 <= n {
         lay_blocks::<4>(src, dst)
@@ -50,5 +44,22 @@ pub fn lay(src: &[u8], dst: &mut [u8])
         lay_blocks::<2>(src, dst)
     } else if 0 < n {
         lay_blocks::<1>(src, dst)
+    }
+}
+
+// Lays bytes over the front of a buffer, by the longest blocks of which there is one. No `match` on ranges, which tests from 0 up: a long copy would pay for it.
+pub fn lay(src: &[u8], dst: &mut [u8])
+    requires { length src.now ≤ length dst.old }
+    ensures { dst.new ≡ over src.now dst.old }
+{
+    let n = src.len();
+    if n < 16 {
+        lay_short(src, dst)
+    } else if 64 <= n {
+        lay_blocks::<64>(src, dst)
+    } else if 32 <= n {
+        lay_blocks::<32>(src, dst)
+    } else {
+        lay_blocks::<16>(src, dst)
     }
 }
