@@ -372,10 +372,6 @@ zero_last l k n m e h = sym (e ∙ ap (λ (t : Bool). m is 0 and t) (blank_end l
 pub mod_next : (x m : ℕ) → x % m + 1 < m → (x + 1) % m ≡ x % m + 1
 mod_next x m h = sym (mod-add-mod x m 1) ∙ mod-eq_of_lt h
 
--- a loop that goes on by k has less before it
-pub closer : (n i k : ℕ) → i < n → 0 < k → n - (i + k) < n - i
-closer n i k h p = omega arith
-
 -- the same four numbers give the same
 pub same_four : {A : Type 0} {x x' y y' z z' w w' : ℕ} → x ≡ x' → y ≡ y' → z ≡ z' → w ≡ w' → (g : ℕ → ℕ → ℕ → ℕ → A) → g x y z w ≡ g x' y' z' w'
 same_four p q r s g = cc
