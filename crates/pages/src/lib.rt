@@ -1,5 +1,6 @@
 // Storing bytes into a lent image, and the page writes of an I2C card, over plain numbers.
 // Inner functions: each asks that its range lies in the image. The rules are written in specs/Pages.antt.
+// The two pages stand apart, as the rules take them, and address and data: a struct would be taken apart in each clause.
 #![tactic(auto)]
 
 ghost use Rattle.std.specs.Prelude.{◌≡◌, ◌+◌, ◌%◌, ◌≤◌, ◌<◌, length};
