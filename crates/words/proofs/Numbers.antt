@@ -2,17 +2,35 @@
 use mathlib.Core.Path.{◌≡◌, refl, sym, ap, ap₂, ◌∙◌}
 use mathlib.Core.List.{List, [], ◌∷◌, ◌++◌}
 use Prim.Native.Nat.{ℕ, zero, suc, ◌+◌, ◌-◌, ◌*◌, ◌/◌, ◌%◌, ◌^◌, ◌<◌}
-use native.Mathlib.Nat.{pow-suc, zero-lt-suc, mul_comm, div-div-eq-div-mul, one-le-pow, mod-eq_of_lt}
+use native.Mathlib.Nat.{pow-suc, zero-lt-suc, mul_comm, div-div-eq-div-mul, one-le-pow, mod-eq_of_lt, add-zero}
 use native.Mathlib.Omega.{arith}
-use lib.ListN.{length}
+use lib.ListN.{length, take, drop}
+use lib.Seq.{get_or-drop}
 use lib.Arith.{mod-mul}
 use lib.Dec.{ltb}
 use mathlib.Core.Bool.{Bool, true, false}
 use borrow.Author.Tests.{ltb-true, ltb-false}
-use Rattle.std.specs.Int.{w64, to_le_bytes}
+use Rattle.std.specs.Int.{w32, w64, to_le_bytes, from_le_bytes}
+use Rattle.std.proofs.lemmas.List.{get_or-take}
 use Rattle.words.specs.Choice.{◌and◌}
 use Rattle.words.proofs.Choices.{and_true}
 use Rattle.words.specs.Bytes.{AllBytes, byte, four_at, eight_at, number_in, byte_of, low_first, series}
+
+-- ---- the number that the library makes of four bytes
+part_byte : (l : List ℕ) (k m i : ℕ) → m ≡ 4 → i < 4 → byte (take 4 (take m (drop k l))) i ≡ byte l (k + i)
+part_byte l k m i e h = get_or-take 4 (take m (drop k l)) i 0 h ∙ get_or-take m (drop k l) i 0 (omega arith) ∙ get_or-drop k l i 0
+
+pub four_from : (l : List ℕ) (k m : ℕ) → m ≡ 4 → from_le_bytes w32 (take 4 (take m (drop k l))) ≡ four_at l k
+unfolding four_at
+four_from l k m e =
+    omega (
+      arith,
+      part_byte l k m 0 e (omega arith),
+      ap (byte l) (add-zero k),
+      part_byte l k m 1 e (omega arith),
+      part_byte l k m 2 e (omega arith),
+      part_byte l k m 3 e (omega arith),
+    )
 
 -- ---- a number in the eight bytes that the library makes of it
 -- byte k of it, and 0 beyond

@@ -47,7 +47,7 @@ pub fn four_at(s: &[u8], k: usize) -> usize
     requires { k + 4 ≤ length s.now }
     ensures { result ≡ four_at s.now k }
 {
-    wide(s[k]) + 256 * wide(s[k + 1]) + 65536 * wide(s[k + 2]) + 16777216 * wide(s[k + 3])
+    u32::from_le_bytes(*s[k..k + 4].first_chunk().unwrap()) as usize
 }
 
 // The number in the eight bytes from k on, low first.
@@ -55,7 +55,7 @@ pub fn eight_at(s: &[u8], k: usize) -> usize
     requires { k + 8 ≤ length s.now }
     ensures { result ≡ eight_at s.now k }
 {
-    four_at(s, k) + 4294967296 * four_at(s, k + 4)
+    four_at(s, k) + (four_at(s, k + 4) << 32)
 }
 
 // Byte k of a number, low first.
