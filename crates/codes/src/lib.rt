@@ -1,5 +1,6 @@
 // The counter and the code of a lent image, over plain numbers: a try is spent, and then the codes are compared.
 // Inner functions: those on an image ask that counter and code lie in it. The rules are written in specs/: Counters, Codes.
+// Counter, full value and code stand apart, as the rules take them: a struct of the three would be taken apart in each clause.
 #![tactic(auto)]
 
 ghost use Rattle.std.specs.Prelude.{◌≡◌, ◌+◌, ◌≤◌, ◌<◌, length};
@@ -13,7 +14,7 @@ use words::same_bytes;
 pub fn tries_left(counter: u8) -> u8
     ensures { result ≡ tries counter }
 {
-    u8::count_ones(counter) as u8
+    counter.count_ones() as u8
 }
 
 // The counter with one try spent: its lowest one bit is cleared. A counter of 0 stays.
@@ -23,10 +24,11 @@ fn spend(counter: u8) -> u8
     if counter == 0 {
         return 0;
     }
-    counter - (1u8 << u8::trailing_zeros(counter))
+    counter - (1 << counter.trailing_zeros())
 }
 
 // A try is spent: the counter's lowest one bit is cleared.
+#[tactic(auto, unfolding(crate::specs::Codes::spending))]
 fn spend_try(image: &mut [u8], counter: usize)
     requires { counter < length image.old }
     ensures { image.new ≡ spending counter image.old }

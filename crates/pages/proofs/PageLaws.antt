@@ -7,13 +7,13 @@ use native.Mathlib.Nat.{add-mod_right, mul-mod_right, mul-div_cancel', mul_comm,
 use native.Mathlib.Nat.{mul-add-mod_self_left, mod-eq_of_lt, add-zero, div-add-mod, mod-lt, mod-le, mul-le-mul_left, dvd_of_mod-eq-zero}
 use native.Mathlib.Numerals.{add-one}
 use native.Mathlib.Omega.{arith}
-use lib.ListN.{length, take, drop, set, length-set, length-drop, take-append-drop}
-use lib.Seq.{sets, sets-eq, drop-drop, drop-length, length-take-le}
+use lib.ListN.{length, take, drop, set, length-set}
+use lib.Seq.{sets, sets-eq}
 use lib.Dec.{eqb}
 use borrow.Author.Tests.{eqb-true, eqb-false, ne_eqb}
 use Rattle.words.specs.Choice.{◌⇒◌⁏◌, ◌is◌}
 use Rattle.words.proofs.Choices.{either, rest}
-use Rattle.words.proofs.Lists.{mod_next}
+use Rattle.words.proofs.Lists.{mod_next, empty_list}
 use Rattle.pages.specs.Pages.{cut_start, lands, page_write}
 
 -- ---- any pages
@@ -102,26 +102,16 @@ module _ (reader chip : ℕ) where
       (omega (arith, to, ap (λ (n : ℕ). n % chip) to, mod_next (lands chip c a) chip (omega arith)))
       ∙ ap₂ (λ (n m : ℕ). page_write reader chip (sets im n (w ∷ vs)) c m ws) (to ∙ add-one (lands chip c a)) next
 
-  -- one turn of the loop: k bytes, no more than are left of the reader page, of the chip page and of the data
-  pub write_run : (image : List ℕ) (c at i k : ℕ) (vs : List ℕ) → c ≤ at + i → i + k ≤ length vs
-      → (at + i) % reader + k ≤ reader → lands chip (cut_start reader c (at + i)) (at + i) % chip + k ≤ chip
-      → page_write reader chip image c (at + i) (drop i vs)
-      ≡ page_write reader chip (sets image (lands chip (cut_start reader c (at + i)) (at + i)) (take k (drop i vs))) (cut_start reader c (at + i)) (at + (i + k)) (drop (i + k) vs)
-  write_run image c at i k vs h b r p =
-      let a : ℕ = at + i in
-      let c' : ℕ = cut_start reader c a in
-      let run : List ℕ = take k (drop i vs) in
-      let long : length run ≡ k = length-take-le k (drop i vs) (omega (arith, length-drop i vs)) in
-      let left : drop i vs ≡ run ++ drop (i + k) vs = sym (take-append-drop k (drop i vs)) ∙ ap (λ (l : List ℕ). run ++ l) (drop-drop k i vs) in
-      let next : a + length run ≡ at + (i + k) = omega (arith, long) in
-      write_from image c a (drop i vs)
-      ∙ ap (page_write reader chip image c' a) left
-      ∙ run_stores image c' a run (drop (i + k) vs) (cut_le reader c a h) (cut_again reader c a) (omega (arith, long)) (omega (arith, long))
-      ∙ ap (λ (n : ℕ). page_write reader chip (sets image (lands chip c' a) run) c' n (drop (i + k) vs)) next
+  -- one turn of the loop: a run, no longer than what is left of the reader page and of the chip page
+  pub write_run : (image : List ℕ) (c a : ℕ) (vs ws : List ℕ) → c ≤ a → a % reader + length vs ≤ reader → lands chip (cut_start reader c a) a % chip + length vs ≤ chip
+      → page_write reader chip image c a (vs ++ ws)
+      ≡ page_write reader chip (sets image (lands chip (cut_start reader c a) a) vs) (cut_start reader c a) (a + length vs) ws
+  write_run image c a vs ws h r p =
+      write_from image c a (vs ++ ws) ∙ run_stores image (cut_start reader c a) a vs ws (cut_le reader c a h) (cut_again reader c a) r p
 
-  pub write_end : (image : List ℕ) (c a : ℕ) (vs : List ℕ) → page_write reader chip image c a (drop (length vs) vs) ≡ image
+  pub write_end : (image : List ℕ) (c a : ℕ) (vs : List ℕ) → length vs ≡ 0 → page_write reader chip image c a vs ≡ image
   unfolding page_write
-  write_end image c a vs = rw (drop-length vs)
+  write_end image c a vs e = ap (page_write reader chip image c a) (empty_list vs e)
 
 -- ---- the reader page divides the chip page
 module _ (reader chip : ℕ) (some : 0 < reader) (whole : reader ∣ chip) (room : 0 < chip) where

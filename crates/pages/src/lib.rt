@@ -1,5 +1,6 @@
 // Storing bytes into a lent image, and the page writes of an I2C card, over plain numbers.
 // Inner functions: each asks that its range lies in the image. The rules are written in specs/Pages.antt.
+// The two pages stand apart, as the rules take them, and address and data: a struct would be taken apart in each clause.
 #![tactic(auto)]
 
 ghost use Rattle.std.specs.Prelude.{◌≡◌, ◌+◌, ◌%◌, ◌≤◌, ◌<◌, length};
@@ -9,7 +10,6 @@ ghost use Rattle.pages.specs.Pages.{cut_start, lands, page_write};
 ghost use Rattle.pages.specs.Inner.{OnPages};
 
 use copies::lay;
-use words::least;
 
 // The data stored from `at` on.
 pub fn store(image: &mut [u8], at: usize, data: &[u8])
@@ -28,6 +28,7 @@ fn cut_start(reader: usize, c: usize, a: usize) -> usize
 }
 
 // Where the byte for address a lands, in a cut that starts at c.
+#[tactic(auto, unfolding(crate::specs::Pages::lands))]
 fn landing(chip: usize, c: usize, a: usize) -> usize
     requires { (0 < chip) × (chip ≤ largest) × (c ≤ a) × (a ≤ largest) }
     ensures { result ≡ lands chip c a }
@@ -43,15 +44,16 @@ fn write_round(image: &mut [u8], at: usize, data: &[u8], reader: usize, chip: us
     ensures { image.new ≡ page_write reader chip image.old at at «data».now }
 {
     let mut start = at;
-    let mut i = 0;
-    while i < data.len() {
-        let a = at + i;
+    let mut a = at;
+    let mut left = data;
+    while !left.is_empty() {
         start = cut_start(reader, start, a);
         let to = landing(chip, start, a);
-        let page = least(reader - a % reader, chip - to % chip);
-        let end = i + least(page, data.len() - i);
-        store(image, to, &data[i..end]);
-        i = end;
+        let page = (reader - a % reader).min(chip - to % chip);
+        let (run, rest) = left.split_at(page.min(left.len()));
+        store(image, to, run);
+        a += run.len();
+        left = rest;
     }
 }
 

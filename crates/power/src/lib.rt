@@ -26,7 +26,7 @@ fn answer_to_reset(chip: Chip, image: &[u8], out: &mut [u8]) -> usize
     }
     out[0] = 0x3B;
     out[1] = 0x04;
-    copies::lay_4(image, &mut out[2..], 0);
+    copies::lay_block::<4>(image, &mut out[2..], 0);
     6
 }
 

@@ -1,13 +1,13 @@
 // What is read of a lent image, over plain numbers: bytes, with the code blanked while the card is closed, and the counter.
 // Inner functions: each asks that its range lies in the image and that what it writes fits the lent buffer.
-// The rules are written in specs/Reads.antt.
+// The rules are written in specs/Reads.antt. Address and length, code and digits stand apart, as the rules take them: a struct would be taken apart in each clause.
 #![tactic(auto)]
 
 ghost use Rattle.std.specs.Prelude.{◌≡◌, ◌+◌, ◌≤◌, ◌<◌, length, take, drop};
 ghost use Rattle.words.specs.Bytes.{over};
 ghost use Rattle.words.specs.Bounds.{largest};
 ghost use Rattle.reads.specs.Reads.{bytes_read, counter_read};
-ghost use Rattle.reads.specs.Inner.{blank_one, blanked};
+ghost use Rattle.reads.specs.Inner.{blanked};
 
 use copies::lay;
 
@@ -20,29 +20,15 @@ fn read(image: &[u8], at: usize, n: usize, out: &mut [u8])
     lay(&image[at..end], out);
 }
 
-// Image byte k reads 00h in a buffer that holds the image from `at` up to `end`.
-fn blank_one(at: usize, end: usize, k: usize, out: &mut [u8])
-    requires { end ≤ at + length out.old }
-    ensures { out.new ≡ blank_one at end k out.old }
-{
-    if k < at {
-        return;
-    }
-    if end <= k {
-        return;
-    }
-    out[k - at] = 0;
-}
-
-// The n image bytes from `code` on read 00h in it.
+// The n image bytes from `code` on read 00h in a buffer that holds the image from `at` up to `end`. Of a `fill` the compiler would make a call of memset.
 fn blank(at: usize, end: usize, code: usize, n: usize, out: &mut [u8])
     requires { (end ≤ at + length out.old) × (code + n ≤ largest) }
     ensures { out.new ≡ blanked at end code n out.old }
 {
-    let mut i = 0;
-    while i < n {
-        blank_one(at, end, code + i, out);
-        i += 1;
+    for k in code..code + n {
+        if at <= k && k < end {
+            out[k - at] = 0;
+        }
     }
 }
 
@@ -71,6 +57,7 @@ pub fn read_counter(image: &[u8], counter: usize, n: usize, out: &mut [u8])
     requires { (counter < length image.now) × (3 ≤ n) × (n ≤ 4) × (n ≤ length out.old) }
     ensures { out.new ≡ over (counter_read counter image.now n) out.old }
 {
+    // One by one: of a `fill` the compiler would make a call of memset.
     out[0] = image[counter];
     out[1] = 0;
     out[2] = 0;

@@ -1,7 +1,7 @@
 -- Laws of lists: bytes over a buffer, a run, a part that was lent and came back, stores that miss a place; and of numbers.
 use mathlib.Core.Path.{◌≡◌, refl, sym, ap, ap₂, ◌∙◌, subst}
 use mathlib.Core.List.{List, [], ◌∷◌, ◌++◌, append_assoc, append-nil}
-use mathlib.Core.Bool.{Bool, true, false}
+use mathlib.Core.Bool.{Bool, true, false, ◌&&◌}
 use mathlib.Core.Logic.{◌⊎◌, inl, inr}
 use Prim.Native.Nat.{ℕ, zero, suc, ◌+◌, ◌-◌, ◌*◌, ◌%◌, ◌≤◌, ◌<◌, min}
 use native.Mathlib.Nat.{add_comm, zero-add, not-suc-le-zero, le_of_suc-le-suc, add-suc, suc-add, add-zero, mul-suc, mod-add-mod, mod-eq_of_lt}
@@ -9,8 +9,9 @@ use native.Mathlib.Numerals.{add-one}
 use native.Mathlib.Omega.{arith}
 use lib.ListN.{length, take, drop, set, get_or, length-append, length-drop, drop_of_length-le, take-append-drop}
 use lib.Seq.{length-take-le, set_at, drop-cons, drop-drop, drop_at, append_snoc, take_at, take_all, take-append_seam, sets, get_or-set_other}
-use lib.Seq.{get_or-append-add, get_or-drop, take-add, take-length}
-use lib.Dec.{ltb}
+use lib.Seq.{sets-eq, get_or-append-add, get_or-drop, take-add, take-length}
+use lib.Dec.{ltb, eqb}
+use Rattle.std.specs.Cmp.Lexicographic.{pointwise}
 use borrow.Rule.Slice.PartMut.{put_mid}
 use borrow.Author.Tests.{eq-eqb, ne_eqb, eqb-true, ltb-true, ltb-false}
 use Rattle.words.specs.Choice.{◌and◌, ◌is◌}
@@ -25,7 +26,7 @@ copy_suc i (x ∷ s) [] h k = absurd (not-suc-le-zero k)
 copy_suc zero (x ∷ s) (y ∷ d) h k = refl
 copy_suc (suc i) (x ∷ s) (y ∷ d) h k = ap (λ (t : List ℕ). x ∷ t) (copy_suc i s d (le_of_suc-le-suc h) (le_of_suc-le-suc k))
 
-pub copy_more : (i : ℕ) (s d : List ℕ) → i < length s → i < length d → set (take i s ++ drop i d) i (get_or s i 0) ≡ take (i + 1) s ++ drop (i + 1) d
+copy_more : (i : ℕ) (s d : List ℕ) → i < length s → i < length d → set (take i s ++ drop i d) i (get_or s i 0) ≡ take (i + 1) s ++ drop (i + 1) d
 copy_more i s d h k = rw (add-one i) (copy_suc i s d h k)
 
 -- as many turns as there are bytes
@@ -208,6 +209,14 @@ length_tail k a = ap length (tail_is k a) ∙ length-drop k a
 pub over_lent : (k : ℕ) (a b c d : List ℕ) {y : List ℕ} → a ≡ over b d → length b ≡ k → y ≡ over c (take (length a - k) (drop k a)) → put_mid k (length a - k) a y ≡ over (b ++ c) d
 over_lent k a b c d p e h = lent_tail k a c h ∙ ap (λ (t : List ℕ). take k t ++ over c (drop k t)) p ∙ over_more k b c d e
 
+-- a part that was lent and came back as so many bytes is a run of stores
+pub mid_sets : (k : ℕ) (l : List ℕ) {vs y : List ℕ} {n : ℕ} → y ≡ vs → n ≡ length vs → k + length vs ≤ length l → put_mid k n l y ≡ sets l k vs
+mid_sets k l {vs} {y} {n} e m h =
+    ap₂ (λ (i : ℕ) (t : List ℕ). put_mid k i l t) m e
+    ∙ ap (λ (t : List ℕ). take k l ++ (vs ++ t)) (drop-drop (length vs) k l)
+    ∙ sym (append_assoc (take k l) vs (drop (k + length vs) l))
+    ∙ sym (sets-eq vs l k h)
+
 -- ---- stores
 -- a run of stores leaves a place before it, or behind it, alone
 pub byte_sets : (l : List ℕ) (i : ℕ) (vs : List ℕ) (k : ℕ) → (k < i) ⊎ (i + length vs ≤ k) → byte (sets l i vs) k ≡ byte l k
@@ -230,13 +239,18 @@ drop_take s k l h w =
     ∙ drop_at (take s l) (take (k - s) (drop s l)) s (length-take-le s l (omega arith))
 
 -- ---- the same bytes
-pub same_step : (a b : List ℕ) (i : ℕ) → i < length a → i < length b → same (drop i a) (drop i b) ≡ (byte a i is byte b i and same (drop (i + 1) a) (drop (i + 1) b))
-unfolding same
-same_step a b i h k = rw (drop-cons a i 0 h, drop-cons b i 0 k, add-one i)
+and_is : (a b : Bool) → (a && b) ≡ a and b
+unfolding ◌and◌
+and_is true b = refl
+and_is false b = refl
 
-pub same_end : (a b : List ℕ) → length a ≡ length b → same (drop (length a) a) (drop (length a) b) ≡ true
+-- the library's test of two lists of numbers
+pub same_pointwise : (a b : List ℕ) → pointwise eqb a b ≡ same a b
 unfolding same
-same_end a b e = rw (drop_of_length-le a {i = length a} (omega arith), drop_of_length-le b {i = length a} (omega arith))
+same_pointwise [] [] = refl
+same_pointwise [] (y ∷ b) = refl
+same_pointwise (x ∷ a) [] = refl
+same_pointwise (x ∷ a) (y ∷ b) = and_is (eqb x y) (pointwise eqb a b) ∙ ap (λ (t : Bool). x is y and t) (same_pointwise a b)
 
 pub same_eq : (a b : List ℕ) → same a b ≡ true → a ≡ b
 unfolding same
@@ -357,10 +371,6 @@ zero_last l k n m e h = sym (e ∙ ap (λ (t : Bool). m is 0 and t) (blank_end l
 -- the next number has the next remainder, unless it is a multiple
 pub mod_next : (x m : ℕ) → x % m + 1 < m → (x + 1) % m ≡ x % m + 1
 mod_next x m h = sym (mod-add-mod x m 1) ∙ mod-eq_of_lt h
-
--- a loop that goes on by k has less before it
-pub closer : (n i k : ℕ) → i < n → 0 < k → n - (i + k) < n - i
-closer n i k h p = omega arith
 
 -- the same four numbers give the same
 pub same_four : {A : Type 0} {x x' y y' z z' w w' : ℕ} → x ≡ x' → y ≡ y' → z ≡ z' → w ≡ w' → (g : ℕ → ℕ → ℕ → ℕ → A) → g x y z w ≡ g x' y' z' w'

@@ -1,40 +1,69 @@
 -- Laws of numbers in bytes, low first; and a test of every number below one, computed.
-use mathlib.Core.Path.{◌≡◌, refl, sym, ap, ap₂, ◌∙◌, subst}
+use mathlib.Core.Path.{◌≡◌, refl, sym, ap, ap₂, ◌∙◌}
 use mathlib.Core.List.{List, [], ◌∷◌, ◌++◌}
 use Prim.Native.Nat.{ℕ, zero, suc, ◌+◌, ◌-◌, ◌*◌, ◌/◌, ◌%◌, ◌^◌, ◌<◌}
-use native.Mathlib.Nat.{pow-suc, div-lt_iff_lt-mul, zero-lt-suc, mul_comm, div-div-eq-div-mul, one-le-pow, mod-eq_of_lt}
+use native.Mathlib.Nat.{pow-suc, zero-lt-suc, mul_comm, div-div-eq-div-mul, one-le-pow, mod-eq_of_lt, add-zero}
 use native.Mathlib.Omega.{arith}
-use lib.ListN.{length, set}
-use lib.Seq.{sets}
+use lib.ListN.{length, take, drop}
+use lib.Seq.{get_or-drop}
 use lib.Arith.{mod-mul}
 use lib.Dec.{ltb}
 use mathlib.Core.Bool.{Bool, true, false}
 use borrow.Author.Tests.{ltb-true, ltb-false}
+use Rattle.std.specs.Int.{w32, w64, to_le_bytes, from_le_bytes}
+use Rattle.std.proofs.lemmas.List.{get_or-take}
 use Rattle.words.specs.Choice.{◌and◌}
 use Rattle.words.proofs.Choices.{and_true}
 use Rattle.words.specs.Bytes.{AllBytes, byte, four_at, eight_at, number_in, byte_of, low_first, series}
 
--- ---- a loop that takes byte after byte off: one turn
-less_one : (k i : ℕ) → i < k → k - i ≡ suc (k - (i + 1))
-less_one k i h = omega arith
+-- ---- the number that the library makes of four bytes
+part_byte : (l : List ℕ) (k m i : ℕ) → m ≡ 4 → i < 4 → byte (take 4 (take m (drop k l))) i ≡ byte l (k + i)
+part_byte l k m i e h = get_or-take 4 (take m (drop k l)) i 0 h ∙ get_or-take m (drop k l) i 0 (omega arith) ∙ get_or-drop k l i 0
 
-pub byte_turn : (n k i : ℕ) → i < k → byte_of n (k - i) ≡ byte_of (n / 256) (k - (i + 1))
+pub four_from : (l : List ℕ) (k m : ℕ) → m ≡ 4 → from_le_bytes w32 (take 4 (take m (drop k l))) ≡ four_at l k
+unfolding four_at
+four_from l k m e =
+    omega (
+      arith,
+      part_byte l k m 0 e (omega arith),
+      ap (byte l) (add-zero k),
+      part_byte l k m 1 e (omega arith),
+      part_byte l k m 2 e (omega arith),
+      part_byte l k m 3 e (omega arith),
+    )
+
+-- ---- a number in the eight bytes that the library makes of it
+-- byte k of it, and 0 beyond
+byte_zero : (k : ℕ) → byte_of 0 k ≡ 0
 unfolding byte_of
-byte_turn n k i h = ap (byte_of n) (less_one k i h)
+byte_zero zero = refl
+byte_zero (suc k) = byte_zero k
 
-pub low_turn : (l : List ℕ) (at n k i : ℕ) → i < k → sets l (at + i) (low_first (k - i) n) ≡ sets (set l (at + i) (n % 256)) (at + (i + 1)) (low_first (k - (i + 1)) (n / 256))
+pub byte_low : (n k : ℕ) → n < 2 ^ 64 → byte (to_le_bytes w64 n) k ≡ byte_of n k
+unfolding byte_of
+byte_low n zero h = refl
+byte_low n (suc zero) h = omega arith
+byte_low n (suc (suc zero)) h = omega arith
+byte_low n (suc (suc (suc zero))) h = omega arith
+byte_low n (suc (suc (suc (suc zero)))) h = omega arith
+byte_low n (suc (suc (suc (suc (suc zero))))) h = omega arith
+byte_low n (suc (suc (suc (suc (suc (suc zero)))))) h = omega arith
+byte_low n (suc (suc (suc (suc (suc (suc (suc zero))))))) h = omega arith
+byte_low n (suc (suc (suc (suc (suc (suc (suc (suc k)))))))) h =
+    let e : n / 256 / 256 / 256 / 256 / 256 / 256 / 256 / 256 ≡ 0 = omega arith in
+    sym (ap (λ (m : ℕ). byte_of m k) e ∙ byte_zero k)
+
+-- all of them
+pub low_eight : (n : ℕ) → n < 2 ^ 64 → to_le_bytes w64 n ≡ low_first 7 n
 unfolding low_first
-low_turn l at n k i h =
-    let e : suc (at + i) ≡ at + (i + 1) = omega arith in
-    ap (λ (j : ℕ). sets l (at + i) (low_first j n)) (less_one k i h)
-    ∙ ap (λ (j : ℕ). sets (set l (at + i) (n % 256)) j (low_first (k - (i + 1)) (n / 256))) e
-
--- what is left has a byte less
-pub left_less : (n k i : ℕ) → i < k → n < 256 ^ (k - i) → n / 256 < 256 ^ (k - (i + 1))
-left_less n k i h e =
-    let j : ℕ = k - (i + 1) in
-    let p : 256 ^ (k - i) ≡ 256 ^ j * 256 = ap (λ (x : ℕ). 256 ^ x) (less_one k i h) ∙ pow-suc 256 j in
-    (div-lt_iff_lt-mul (zero-lt-suc 255)).1 (subst (λ (x : ℕ). n < x) p e)
+low_eight n h =
+    let e2 : n / 65536 ≡ n / 256 / 256 = omega arith in
+    let e3 : n / 16777216 ≡ n / 256 / 256 / 256 = omega arith in
+    let e4 : n / 4294967296 ≡ n / 256 / 256 / 256 / 256 = omega arith in
+    let e5 : n / 1099511627776 ≡ n / 256 / 256 / 256 / 256 / 256 = omega arith in
+    let e6 : n / 281474976710656 ≡ n / 256 / 256 / 256 / 256 / 256 / 256 = omega arith in
+    let e7 : n / 72057594037927936 % 256 ≡ n / 256 / 256 / 256 / 256 / 256 / 256 / 256 = omega arith in
+    cc
 
 -- ---- eight bytes
 -- a number put in eight bytes is read back
@@ -100,11 +129,6 @@ eight_number l k b =
     )
 
 -- byte i of it is byte i of the list
-byte_zero : (i : ℕ) → byte_of 0 i ≡ 0
-unfolding byte_of
-byte_zero zero = refl
-byte_zero (suc i) = byte_zero i
-
 pub byte_number : (l : List ℕ) (i : ℕ) → byte_of (number_in l) i ≡ byte l i % 256
 unfolding byte_of number_in
 byte_number [] i = byte_zero i

@@ -25,21 +25,21 @@ pub const LINE: usize = 549;
 pub fn wide(b: u8) -> usize
     ensures { (result ≡ b) × (result < 256) }
 {
-    b as usize
+    usize::from(b)
 }
 
 // The lesser of two.
 pub fn least(a: usize, b: usize) -> usize
     ensures { result ≡ min a b }
 {
-    if a < b { a } else { b }
+    a.min(b)
 }
 
 // Byte k, 0 beyond the end.
 pub fn byte_at(s: &[u8], k: usize) -> u8
     ensures { result ≡ byte s.now k }
 {
-    if k < s.len() { s[k] } else { 0 }
+    s.get(k).copied().unwrap_or(0)
 }
 
 // The number in the four bytes from k on, low first.
@@ -47,7 +47,7 @@ pub fn four_at(s: &[u8], k: usize) -> usize
     requires { k + 4 ≤ length s.now }
     ensures { result ≡ four_at s.now k }
 {
-    wide(s[k]) + 256 * wide(s[k + 1]) + 65536 * wide(s[k + 2]) + 16777216 * wide(s[k + 3])
+    u32::from_le_bytes(*s[k..k + 4].first_chunk().unwrap()) as usize
 }
 
 // The number in the eight bytes from k on, low first.
@@ -55,20 +55,14 @@ pub fn eight_at(s: &[u8], k: usize) -> usize
     requires { k + 8 ≤ length s.now }
     ensures { result ≡ eight_at s.now k }
 {
-    four_at(s, k) + 4294967296 * four_at(s, k + 4)
+    four_at(s, k) + (four_at(s, k + 4) << 32)
 }
 
 // Byte k of a number, low first.
 pub fn byte_of(n: usize, k: usize) -> u8
     ensures { result ≡ byte_of n k }
 {
-    let mut left = n;
-    let mut i = 0;
-    while i < k {
-        left = left / 256;
-        i += 1;
-    }
-    (left % 256) as u8
+    byte_at(&n.to_le_bytes(), k)
 }
 
 // Whether two slices of one length hold the same bytes.
@@ -76,14 +70,7 @@ pub fn same_bytes(a: &[u8], b: &[u8]) -> bool
     requires { length a.now ≡ length b.now }
     ensures { result ≡ same a.now b.now }
 {
-    let mut i = 0;
-    while i < a.len() {
-        if a[i] != b[i] {
-            return false;
-        }
-        i += 1;
-    }
-    true
+    a == b
 }
 
 // Puts two bytes behind the n that stand there, and gives the new length.
@@ -101,12 +88,5 @@ pub fn put_eight(out: &mut [u8], k: usize, n: usize)
     requires { k + 8 ≤ length out.old }
     ensures { out.new ≡ sets out.old k (low_first 7 n) }
 {
-    let mut left = n;
-    let mut i = 0;
-    while i < 7 {
-        out[k + i] = (left % 256) as u8;
-        left = left / 256;
-        i += 1;
-    }
-    out[k + 7] = left as u8;
+    out[k..k + 8].copy_from_slice(&n.to_le_bytes());
 }

@@ -13,12 +13,6 @@ returns-then-counter-eq0 c = sym (ap spent c.if-counter-eq0.true ∙ spent_none)
 low : (c : Else-counter-eq0) → Lowest 8 c.args.counter (count_trailing_zeros 8 c.args.counter)
 low c = lowest 8 c.args.counter (omega arith) (omega arith)
 
-pub overflow_cast-result : goal.overflow_cast-result
-overflow_cast-result c = omega (arith, (low (goal.at.overflow_cast-result c).Else-counter-eq0).place)
-
-pub overflow_shl-result : goal.overflow_shl-result
-overflow_shl-result c = (low (goal.at.overflow_shl-result c).Else-counter-eq0).place
-
 pub overflow_sub-result : goal.overflow_sub-result
 overflow_sub-result c = omega (arith, (low (goal.at.overflow_sub-result c).Else-counter-eq0).within)
 

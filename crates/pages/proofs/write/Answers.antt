@@ -9,6 +9,3 @@ returns-then-chip-reader-eq0 c =
     let a = c.args in
     c.store.ensures
     ∙ sym (page_stores a.reader a.chip (omega arith) (omega arith) c.if-chip-reader-eq0.true a.image.now a.at a.«data».now)
-
-pub returns : goal.returns
-returns c = c.write_round.ensures

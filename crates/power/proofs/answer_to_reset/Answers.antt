@@ -33,14 +33,14 @@ returns-then-facts-ne0 c =
 pub bounds-out-1 : goal.bounds-out-1
 bounds-out-1 c = simp length-set (omega arith)
 
-pub slice_bounds-lay_4-count : goal.slice_bounds-lay_4-count
-slice_bounds-lay_4-count c = simp length-set (omega arith)
+pub slice_bounds-lay_block-count : goal.slice_bounds-lay_block-count
+slice_bounds-lay_block-count c = simp length-set (omega arith)
 
-pub slice_bounds-lay_4-start : goal.slice_bounds-lay_4-start
-slice_bounds-lay_4-start c = simp length-set (omega arith)
+pub slice_bounds-lay_block-start : goal.slice_bounds-lay_block-start
+slice_bounds-lay_block-start c = simp length-set (omega arith)
 
-pub lay_4-requires : goal.lay_4-requires
-lay_4-requires c =
+pub lay_block-requires : goal.lay_block-requires
+lay_block-requires c =
     (omega (arith, (laid c.args.chip).four, c.requires.0), rw (length_tail, length-set, length-set) (omega (arith, c.requires.1)))
 
 -- the first two bytes of six
@@ -50,7 +50,7 @@ begun out = set (set out 0 0x3B) 1 0x04
 pub shape_of-out : goal.shape_of-out
 shape_of-out c =
     let out : List ℕ = c.args.out.now in
-    same_len_mid 2 (length (begun out) - 2) (begun out) c.lay_4.new.dst c.lay_4.auto.dst ∙ length-set (set out 0 0x3B) 1 0x04 ∙ length-set out 0 0x3B
+    same_len_mid 2 (length (begun out) - 2) (begun out) c.lay_block.new.dst c.lay_block.auto.dst ∙ length-set (set out 0 0x3B) 1 0x04 ∙ length-set out 0 0x3B
 
 pub returns : goal.returns
 unfolding reset block
@@ -62,7 +62,7 @@ returns c =
     let e : reset (facts a.chip) im ≡ 0x3B ∷ 0x04 ∷ take 4 im = rest _ _ (ap not (eq-eqb _ 0 (sym page ∙ c.if-facts-ne0.false))) in
     let four : length (take 4 im) ≡ 4 = length-take-le 4 im (omega (arith, (laid a.chip).four, c.requires.0)) in (
       omega (arith, ap length e, four),
-      over_lent 2 (begun out) (0x3B ∷ 0x04 ∷ []) (take 4 im) out (over_pair out 0x3B 0x04 (omega (arith, c.requires.1))) refl c.lay_4.ensures
+      over_lent 2 (begun out) (0x3B ∷ 0x04 ∷ []) (take 4 im) out (over_pair out 0x3B 0x04 (omega (arith, c.requires.1))) refl c.lay_block.ensures
           ∙ ap (λ (l : List ℕ). over l out) (sym e),
       omega arith,
     )

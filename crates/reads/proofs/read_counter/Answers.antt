@@ -3,20 +3,10 @@ use mathlib.Core.Path.{◌≡◌, sym, ap, ◌∙◌}
 use mathlib.Core.List.{[], ◌∷◌}
 use native.Mathlib.Omega.{arith}
 use Prim.Native.Nat.{ℕ}
-use lib.ListN.{length-set}
 use lib.Seq.{sets-eq}
 use Rattle.words.specs.Bytes.{byte, over}
 use Rattle.reads.specs.Reads.{counter_read}
 use Rattle.reads.proofs.read_counter.Goals as goal
-
-pub bounds-out-1 : goal.bounds-out-1
-bounds-out-1 c = simp length-set (omega arith)
-
-pub bounds-out-2 : goal.bounds-out-2
-bounds-out-2 c = simp length-set (omega arith)
-
-pub bounds-out-3 : goal.bounds-out-3
-bounds-out-3 c = simp length-set (omega arith)
 
 pub returns-then-n-gt3 : goal.returns-then-n-gt3
 unfolding over counter_read

@@ -1,22 +1,12 @@
-use mathlib.Core.Path.{◌≡◌, sym, ap, ◌∙◌}
-use native.Mathlib.Nat.{sub-zero}
-use native.Mathlib.Omega.{arith}
-use Prim.Native.Nat.{◌-◌}
-use Rattle.words.specs.Bytes.{byte_of}
-use Rattle.words.proofs.Numbers.{byte_turn}
+-- `byte_of` meets its contract: a number is its eight bytes, low first, and 0 stands beyond them.
+use mathlib.Core.Path.{◌∙◌, ap}
+use mathlib.Core.List.{List}
+use Prim.Native.Nat.{ℕ}
+use Rattle.words.specs.Bytes.{byte}
+use Rattle.words.proofs.Numbers.{byte_low}
 use Rattle.words.proofs.byte_of.Goals as goal
 
-pub loop-i-init : goal.loop-i-init
-loop-i-init c = (omega arith, ap (byte_of c.args.n) (sym (sub-zero c.args.k)))
-
-pub loop-i-preserved : goal.loop-i-preserved
-loop-i-preserved c =
-    let l = c.loop-i in
-    (omega arith, l.invariant.1 ∙ byte_turn l.left c.args.k l.i (omega arith))
-
 pub returns : goal.returns
-unfolding byte_of
 returns c =
-    let l = c.loop-i in
-    let e : c.args.k - l.i ≡ 0 = omega arith in
-    sym (l.invariant.1 ∙ ap (byte_of l.left) e)
+    let a = c.args in
+    c.byte_at.ensures ∙ ap (λ (l : List ℕ). byte l a.k) c.to_le_bytes.ensures ∙ byte_low a.n a.k c.ranges.n.fits
