@@ -12,13 +12,6 @@ ghost use Rattle.bits.specs.Inner.{OnesFrom, FreeFrom};
 use copies::lay;
 use words::{eight_at, four_at, least, put_eight, wide};
 
-// Where a search ended.
-#[derive(Clone, Copy)]
-pub enum Place {
-    At(usize),
-    Nowhere,
-}
-
 // The byte with its bit i cleared.
 fn clear(b: u8, i: usize) -> u8
     requires { i < 8 }
@@ -65,7 +58,7 @@ fn free_from(image: &[u8], bits: usize, covered: usize, k: usize) -> usize
 }
 
 // The first protected one of the n bytes from `from` on. A step goes past all unprotected bytes of a protection byte, or of four, at once.
-pub fn first_protected(image: &[u8], bits: usize, covered: usize, from: usize, n: usize) -> Place
+pub fn first_protected(image: &[u8], bits: usize, covered: usize, from: usize, n: usize) -> Option<usize>
     requires { (bits + (covered + 7) / 8 ≤ length image.now) × (from + n < addresses * addresses) }
     ensures { result ≡ first_protected bits covered image.now from n }
 {
@@ -73,11 +66,11 @@ pub fn first_protected(image: &[u8], bits: usize, covered: usize, from: usize, n
     let mut k = from;
     loop {
         if to <= k {
-            break Place::Nowhere;
+            break None;
         }
         let free = free_from(image, bits, covered, k);
         if free == 0 {
-            break Place::At(k);
+            break Some(k);
         }
         k += free;
     }

@@ -7,7 +7,6 @@ ghost use Rattle.std.specs.Prelude.{◌≡◌, ◌+◌, ◌/◌, ◌≤◌, leng
 ghost use Rattle.words.specs.Bounds.{largest};
 ghost use Rattle.stores.specs.Stores.{storing, ends_equal};
 
-use bits::Place;
 use pages::store;
 
 // The data stored from `at` on but where a byte is protected. The search gives the next protected place: the run before it is stored whole,
@@ -27,7 +26,7 @@ pub fn store_unprotected(
     let mut i = 0;
     loop {
         let found = bits::first_protected(image, bits, covered, at + i, data.len() - i);
-        let Place::At(k) = found else {
+        let Some(k) = found else {
             store(image, at + i, &data[i..]);
             return equal;
         };

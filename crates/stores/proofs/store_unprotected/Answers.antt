@@ -12,11 +12,11 @@ use Rattle.words.specs.Bytes.{byte}
 use Rattle.words.proofs.Choices.{and_end, and_holds, and_fails, and_last}
 use Rattle.words.proofs.Lists.{tail_is}
 use Rattle.bits.specs.Bits.{first_protected}
-use Rattle.bits.specs.declared.Place.TheVariants.{At, Nowhere}
+use Rattle.std.specs.Prelude.{Some, None}
 use Rattle.stores.specs.Stores.{storing, ends_equal}
 use Rattle.stores.proofs.StoreLaws.{found_place, run_long, turn_stored, turn_ends, rest_stored, rest_ends}
 use Rattle.stores.proofs.store_unprotected.Goals as goal
-use Rattle.stores.proofs.store_unprotected.Goals.{After-store-in-loop-k, In-At, then-image-k, else-image-k}
+use Rattle.stores.proofs.store_unprotected.Goals.{After-store-in-loop-k, In-Some, then-image-k, else-image-k}
 
 pub loop-k-init : goal.loop-k-init
 unfolding ◌and◌
@@ -33,7 +33,7 @@ pub returns-in_default : goal.returns-in_default
 returns-in_default c =
     let l = c.loop-k in
     let a = c.args in
-    let none : first_protected a.bits a.covered l.image (a.at + l.i) (length a.«data».now - l.i) ≡ Nowhere =
+    let none : first_protected a.bits a.covered l.image (a.at + l.i) (length a.«data».now - l.i) ≡ None =
     sym c.first_protected-found.ensures ∙ c.in_default.is in
     let whole = storing a.bits a.covered a.image.now a.at a.«data».now in
     let left = rest_ends a.bits a.covered l.image a.at l.i a.«data».now (omega arith) (omega arith) none (omega arith) in
@@ -50,36 +50,36 @@ returns-in_default c =
 
 -- ---- it found a protected byte
 -- where
-place : (d : In-At) → let l = d.loop-k in let a = d.args in
-    first_protected a.bits a.covered l.image (a.at + l.i) (length a.«data».now - l.i) ≡ At d.in-At.k
-place d = sym d.first_protected-found.ensures ∙ d.in-At.is
+place : (d : In-Some) → let l = d.loop-k in let a = d.args in
+    first_protected a.bits a.covered l.image (a.at + l.i) (length a.«data».now - l.i) ≡ Some d.in-Some.k
+place d = sym d.first_protected-found.ensures ∙ d.in-Some.is
 
 -- it stands in what is left of the range
-between : (d : In-At) → let l = d.loop-k in let a = d.args in
-    (a.at + l.i ≤ d.in-At.k) × (d.in-At.k < a.at + length a.«data».now)
+between : (d : In-Some) → let l = d.loop-k in let a = d.args in
+    (a.at + l.i ≤ d.in-Some.k) × (d.in-Some.k < a.at + length a.«data».now)
 between d =
     let l = d.loop-k in
     let a = d.args in
-    found_place a.bits a.covered l.image a.at l.i d.in-At.k a.«data».now (omega arith) (omega arith) (place d)
+    found_place a.bits a.covered l.image a.at l.i d.in-Some.k a.«data».now (omega arith) (omega arith) (place d)
 
 pub overflow_sub-end : goal.overflow_sub-end
-overflow_sub-end c = omega (arith, between (goal.at.overflow_sub-end c).In-At)
+overflow_sub-end c = omega (arith, between (goal.at.overflow_sub-end c).In-Some)
 
 pub slice_bounds-store-count-in-loop-k : goal.slice_bounds-store-count-in-loop-k
-slice_bounds-store-count-in-loop-k c = omega (arith, between (goal.at.slice_bounds-store-count-in-loop-k c).In-At)
+slice_bounds-store-count-in-loop-k c = omega (arith, between (goal.at.slice_bounds-store-count-in-loop-k c).In-Some)
 
 pub slice_bounds-store-start-in-loop-k : goal.slice_bounds-store-start-in-loop-k
-slice_bounds-store-start-in-loop-k c = omega (arith, between (goal.at.slice_bounds-store-start-in-loop-k c).In-At)
+slice_bounds-store-start-in-loop-k c = omega (arith, between (goal.at.slice_bounds-store-start-in-loop-k c).In-Some)
 
 pub slice_bounds-store-end-in-loop-k : goal.slice_bounds-store-end-in-loop-k
-slice_bounds-store-end-in-loop-k c = omega (arith, between (goal.at.slice_bounds-store-end-in-loop-k c).In-At)
+slice_bounds-store-end-in-loop-k c = omega (arith, between (goal.at.slice_bounds-store-end-in-loop-k c).In-Some)
 
 pub store-requires-in-loop-k : goal.store-requires-in-loop-k
 store-requires-in-loop-k c =
     let l = c.loop-k in
     let a = c.args in
-    let long = run_long a.bits a.covered l.image a.at l.i c.in-At.k a.«data».now (omega arith) (omega arith) (place (goal.at.store-requires-in-loop-k c).In-At) in
-    omega (arith, long, between (goal.at.store-requires-in-loop-k c).In-At)
+    let long = run_long a.bits a.covered l.image a.at l.i c.in-Some.k a.«data».now (omega arith) (omega arith) (place (goal.at.store-requires-in-loop-k c).In-Some) in
+    omega (arith, long, between (goal.at.store-requires-in-loop-k c).In-Some)
 
 -- the run was stored, and the image is as long as before
 run_laid : (c : After-store-in-loop-k) → let l = c.loop-k in let a = c.args in
@@ -89,37 +89,37 @@ run_laid c =
     ap length c.store-in-loop-k.ensures ∙ simp length-sets l.invariant.1
 
 pub bounds-image-k : goal.bounds-image-k
-bounds-image-k c = omega (arith, run_laid (goal.at.bounds-image-k c).After-store-in-loop-k, between (goal.at.bounds-image-k c).In-At)
+bounds-image-k c = omega (arith, run_laid (goal.at.bounds-image-k c).After-store-in-loop-k, between (goal.at.bounds-image-k c).In-Some)
 
 pub bounds-data-end : goal.bounds-data-end
-bounds-data-end c = omega (arith, between (goal.at.bounds-data-end c).In-At)
+bounds-data-end c = omega (arith, between (goal.at.bounds-data-end c).In-Some)
 
 pub overflow_add-i : goal.overflow_add-i
-overflow_add-i c = omega (arith, between (goal.at.overflow_add-i c).In-At)
+overflow_add-i c = omega (arith, between (goal.at.overflow_add-i c).In-Some)
 
 pub loop-k-smaller : goal.loop-k-smaller
-loop-k-smaller c = omega (arith, between (goal.at.loop-k-smaller c).In-At)
+loop-k-smaller c = omega (arith, between (goal.at.loop-k-smaller c).In-Some)
 
 pub loop-k-preserved : goal.loop-k-preserved
 loop-k-preserved c =
     let l = c.loop-k in
     let a = c.args in
-    let k : ℕ = c.in-At.k in
+    let k : ℕ = c.in-Some.k in
     let end : ℕ = k - a.at in
     let vs : List ℕ = a.«data».now in
     let whole : List ℕ = storing a.bits a.covered a.image.now a.at vs in
     let after : List ℕ = sets l.image (a.at + l.i) (take (end - l.i) (drop l.i vs)) in
-    let here = turn_ends a.bits a.covered l.image a.at l.i k vs (omega arith) (omega arith) (place (goal.at.loop-k-preserved c).In-At) (omega arith) in
+    let here = turn_ends a.bits a.covered l.image a.at l.i k vs (omega arith) (omega arith) (place (goal.at.loop-k-preserved c).In-Some) (omega arith) in
     let left : Bool = ends_equal whole (a.at + (end + 1)) (drop (end + 1) vs) in
     let seen : ends_equal whole (a.at + l.i) (drop l.i vs) ≡ (byte c.store-in-loop-k.new.image k is byte vs end and left) =
     ap (λ (x : List ℕ). ends_equal x (a.at + l.i) (drop l.i vs)) l.invariant.2
     ∙ here
     ∙ ap (λ (x : List ℕ). byte after k is byte vs end and ends_equal x (a.at + (end + 1)) (drop (end + 1) vs)) (sym l.invariant.2)
     ∙ ap (λ (x : List ℕ). byte x k is byte vs end and left) (sym c.store-in-loop-k.ensures) in (
-      omega (arith, between (goal.at.loop-k-preserved c).In-At),
+      omega (arith, between (goal.at.loop-k-preserved c).In-Some),
       run_laid (goal.at.loop-k-preserved c).After-store-in-loop-k,
       l.invariant.2
-          ∙ turn_stored a.bits a.covered l.image a.at l.i k vs (omega arith) (omega arith) (place (goal.at.loop-k-preserved c).In-At)
+          ∙ turn_stored a.bits a.covered l.image a.at l.i k vs (omega arith) (omega arith) (place (goal.at.loop-k-preserved c).In-Some)
           ∙ ap (λ (x : List ℕ). storing a.bits a.covered x (a.at + (end + 1)) (drop (end + 1) vs)) (sym c.store-in-loop-k.ensures),
       l.invariant.3 ∙ ap (λ (b : Bool). l.equal and b) seen
           ∙ (elim c.if-image-k.branch [
