@@ -58,7 +58,13 @@ fn free_from(image: &[u8], bits: usize, covered: usize, k: usize) -> usize
 }
 
 // The first protected one of the n bytes from `from` on. A step goes past all unprotected bytes of a protection byte, or of four, at once.
-pub fn first_protected(image: &[u8], bits: usize, covered: usize, from: usize, n: usize) -> Option<usize>
+pub fn first_protected(
+    image: &[u8],
+    bits: usize,
+    covered: usize,
+    from: usize,
+    n: usize,
+) -> Option<usize>
     requires { (bits + (covered + 7) / 8 ≤ length image.now) × (from + n < addresses * addresses) }
     ensures { result ≡ first_protected bits covered image.now from n }
 {
@@ -132,13 +138,11 @@ pub fn protect(image: &mut [u8], bits: usize, covered: usize, at: usize, data: &
     ensures more { (protected_count bits covered image.new ≡ protected_count bits covered image.old + result) × (result ≤ length «data».now) }
 {
     let mut more = 0;
-    let mut i = 0;
-    while i < data.len() {
+    for (i, b) in data.iter().enumerate() {
         let k = at + i;
-        if image[k] == data[i] {
+        if image[k] == *b {
             more += protect_one(image, bits, covered, k);
         }
-        i += 1;
     }
     more
 }
