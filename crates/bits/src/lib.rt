@@ -103,18 +103,17 @@ pub fn read_bits(image: &[u8], bits: usize, covered: usize, at: usize, n: usize,
         lay(&image[from..end], out);
         return;
     }
-    let mut j = 0;
-    while j + 8 <= n {
+    let whole = n / 8;
+    for i in 0..whole {
+        let j = 8 * i;
         let low = eight_at(image, from + j);
         let high = wide(image[from + j + 8]);
         put_eight(out, j, shifted(low, high, shift));
-        j += 8;
     }
-    while j < n {
+    for j in 8 * whole..n {
         let low = wide(image[from + j]);
         let high = wide(image[from + j + 1]);
         out[j] = (((low + 256 * high) >> shift) % 256) as u8;
-        j += 1;
     }
 }
 
