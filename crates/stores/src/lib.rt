@@ -24,12 +24,7 @@ pub fn store_unprotected(
 {
     let mut equal = true;
     let mut i = 0;
-    loop {
-        let found = bits::first_protected(image, bits, covered, at + i, data.len() - i);
-        let Some(k) = found else {
-            store(image, at + i, &data[i..]);
-            return equal;
-        };
+    while let Some(k) = bits::first_protected(image, bits, covered, at + i, data.len() - i) {
         let end = k - at;
         store(image, at + i, &data[i..end]);
         if image[k] != data[end] {
@@ -37,4 +32,6 @@ pub fn store_unprotected(
         }
         i = end + 1;
     }
+    store(image, at + i, &data[i..]);
+    equal
 }

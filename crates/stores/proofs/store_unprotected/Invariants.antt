@@ -9,8 +9,8 @@ use Rattle.stores.proofs.store_unprotected.Given as goal
 
 abbrev pub invariant-loop-k : goal.invariant-loop-k
 invariant-loop-k l =
-    let whole = storing l.bits l.covered l.initial.image l.at l.data in
-    (l.i ≤ length l.data) × (length l.image ≡ length l.initial.image)
+    let whole = storing l.bits l.covered l.fn.image l.at l.data in
+    (l.i ≤ length l.data)
     × (whole ≡ storing l.bits l.covered l.image (l.at + l.i) (drop l.i l.data))
     × (ends_equal whole l.at l.data ≡ (l.equal and ends_equal whole (l.at + l.i) (drop l.i l.data)))
 
