@@ -3,7 +3,7 @@
 // The rules are written in specs/Bits.antt.
 #![tactic(auto)]
 
-ghost use Rattle.std.specs.Prelude.{◌≡◌, ◌+◌, ◌-◌, ◌*◌, ◌/◌, ◌%◌, ◌^◌, ◌≤◌, ◌<◌, length};
+ghost use Rattle.std.specs.Prelude.{◌≡◌, ◌+◌, ◌-◌, ◌*◌, ◌/◌, ◌%◌, ◌^◌, ◌≤◌, ◌<◌, length, IfSome};
 ghost use Rattle.words.specs.Bounds.{addresses};
 ghost use Rattle.words.specs.Bytes.{byte, over};
 ghost use Rattle.bits.specs.Bits.{bit_of, cleared, protected_count, is_protected, first_protected, protecting, protect_equal, packed_bytes};
@@ -66,7 +66,8 @@ pub fn first_protected(
     n: usize,
 ) -> Option<usize>
     requires { (bits + (covered + 7) / 8 ≤ length image.now) × (from + n < addresses * addresses) }
-    ensures { result ≡ first_protected bits covered image.now from n }
+    ensures first { result ≡ first_protected bits covered image.now from n }
+    ensures within { IfSome result (λ k. (from ≤ k) × (k < from + n)) }
 {
     let to = least(covered, from + n);
     let mut k = from;

@@ -9,6 +9,7 @@ pub loop-k-init : goal.loop-k-init
 loop-k-init c =
     let a = c.args in (
       omega arith,
+      omega arith,
       first_covered a.bits a.covered a.image.now a.«from» a.n
           ∙ ap (λ (to : ℕ). first_protected a.bits a.covered a.image.now a.«from» (to - a.«from»)) (sym c.least-to.ensures),
     )
@@ -24,16 +25,16 @@ loop-k-preserved c =
     let l = c.loop-k in
     let a = c.args in
     let free = c.free_from-free in
-    (l.invariant.0, l.invariant.1 ∙ first_past a.bits a.covered a.image.now l.k _ free.result free.ensures.free)
+    (omega arith, l.invariant.1, l.invariant.2 ∙ first_past a.bits a.covered a.image.now l.k _ free.result free.ensures.free)
 
-pub returns-then-to-k : goal.returns-then-to-k
-returns-then-to-k c =
+pub returns-then-to-k-clause-first : goal.returns-then-to-k-clause-first
+returns-then-to-k-clause-first c =
     let l = c.loop-k in
     let a = c.args in
-    sym (l.invariant.1 ∙ first_none a.bits a.covered a.image.now l.k _ (omega arith))
+    sym (l.invariant.2 ∙ first_none a.bits a.covered a.image.now l.k _ (omega arith))
 
-pub returns-then-free-eq0 : goal.returns-then-free-eq0
-returns-then-free-eq0 c =
+pub returns-then-free-eq0-clause-first : goal.returns-then-free-eq0-clause-first
+returns-then-free-eq0-clause-first c =
     let l = c.loop-k in
     let a = c.args in
-    sym (l.invariant.1 ∙ first_here a.bits a.covered a.image.now l.k _ (omega arith) (c.free_from-free.ensures.none c.if-free-eq0.true))
+    sym (l.invariant.2 ∙ first_here a.bits a.covered a.image.now l.k _ (omega arith) (c.free_from-free.ensures.none c.if-free-eq0.true))

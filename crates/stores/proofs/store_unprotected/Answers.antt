@@ -16,7 +16,7 @@ use Rattle.std.specs.Prelude.{Some, None}
 use Rattle.stores.specs.Stores.{storing, ends_equal}
 use Rattle.stores.proofs.StoreLaws.{found_place, run_long, turn_stored, turn_ends, rest_stored, rest_ends}
 use Rattle.stores.proofs.store_unprotected.Goals as goal
-use Rattle.stores.proofs.store_unprotected.Goals.{In-Some, then-image-k, else-image-k}
+use Rattle.stores.proofs.store_unprotected.Goals.{then-image-k, else-image-k}
 
 pub loop-k-init : goal.loop-k-init
 unfolding ◌and◌
@@ -29,49 +29,12 @@ loop-k-init c =
     )
 
 -- ---- it found a protected byte
--- where
-place : (d : In-Some) → let l = d.loop-k in let a = d.args in
-    first_protected a.bits a.covered l.image (a.at + l.i) (length a.«data».now - l.i) ≡ Some d.in-Some.k
-place d = sym d.first_protected.ensures ∙ d.in-Some.is
-
--- it stands in what is left of the range
-between : (d : In-Some) → let l = d.loop-k in let a = d.args in
-    (a.at + l.i ≤ d.in-Some.k) × (d.in-Some.k < a.at + length a.«data».now)
-between d =
-    let l = d.loop-k in
-    let a = d.args in
-    found_place a.bits a.covered l.image a.at l.i d.in-Some.k a.«data».now (omega arith) (omega arith) (place d)
-
-pub overflow_sub-end : goal.overflow_sub-end
-overflow_sub-end c = omega (arith, between (goal.at.overflow_sub-end c).In-Some)
-
-pub slice_bounds-store-count : goal.slice_bounds-store-count
-slice_bounds-store-count c = omega (arith, between (goal.at.slice_bounds-store-count c).In-Some)
-
-pub slice_bounds-store-start : goal.slice_bounds-store-start
-slice_bounds-store-start c = omega (arith, between (goal.at.slice_bounds-store-start c).In-Some)
-
-pub slice_bounds-store-end : goal.slice_bounds-store-end
-slice_bounds-store-end c = omega (arith, between (goal.at.slice_bounds-store-end c).In-Some)
-
 pub store-requires : goal.store-requires
 store-requires c =
     let l = c.loop-k in
     let a = c.args in
-    let long = run_long a.bits a.covered l.image a.at l.i c.in-Some.k a.«data».now (omega arith) (omega arith) (place (goal.at.store-requires c).In-Some) in
-    omega (arith, long, between (goal.at.store-requires c).In-Some)
-
-pub bounds-image-k : goal.bounds-image-k
-bounds-image-k c = omega (arith, between (goal.at.bounds-image-k c).In-Some)
-
-pub bounds-data-end : goal.bounds-data-end
-bounds-data-end c = omega (arith, between (goal.at.bounds-data-end c).In-Some)
-
-pub overflow_add-i : goal.overflow_add-i
-overflow_add-i c = omega (arith, between (goal.at.overflow_add-i c).In-Some)
-
-pub loop-k-smaller : goal.loop-k-smaller
-loop-k-smaller c = omega (arith, between (goal.at.loop-k-smaller c).In-Some)
+    let long = run_long a.bits a.covered l.image a.at l.i c.in-Some.k a.«data».now (omega arith) (omega arith) (sym c.in-Some.ensures.first) in
+    omega (arith, long, c.in-Some.ensures.within)
 
 pub loop-k-preserved : goal.loop-k-preserved
 loop-k-preserved c =
@@ -82,16 +45,16 @@ loop-k-preserved c =
     let vs : List ℕ = a.«data».now in
     let whole : List ℕ = storing a.bits a.covered a.image.now a.at vs in
     let after : List ℕ = sets l.image (a.at + l.i) (take (end - l.i) (drop l.i vs)) in
-    let here = turn_ends a.bits a.covered l.image a.at l.i k vs (omega arith) (omega arith) (place (goal.at.loop-k-preserved c).In-Some) (omega arith) in
+    let here = turn_ends a.bits a.covered l.image a.at l.i k vs (omega arith) (omega arith) (sym c.in-Some.ensures.first) (omega arith) in
     let left : Bool = ends_equal whole (a.at + (end + 1)) (drop (end + 1) vs) in
     let seen : ends_equal whole (a.at + l.i) (drop l.i vs) ≡ (byte c.store.new.image k is byte vs end and left) =
     ap (λ (x : List ℕ). ends_equal x (a.at + l.i) (drop l.i vs)) l.invariant.1
     ∙ here
     ∙ ap (λ (x : List ℕ). byte after k is byte vs end and ends_equal x (a.at + (end + 1)) (drop (end + 1) vs)) (sym l.invariant.1)
     ∙ ap (λ (x : List ℕ). byte x k is byte vs end and left) (sym c.store.ensures) in (
-      omega (arith, between (goal.at.loop-k-preserved c).In-Some),
+      omega (arith, c.in-Some.ensures.within),
       l.invariant.1
-          ∙ turn_stored a.bits a.covered l.image a.at l.i k vs (omega arith) (omega arith) (place (goal.at.loop-k-preserved c).In-Some)
+          ∙ turn_stored a.bits a.covered l.image a.at l.i k vs (omega arith) (omega arith) (sym c.in-Some.ensures.first)
           ∙ ap (λ (x : List ℕ). storing a.bits a.covered x (a.at + (end + 1)) (drop (end + 1) vs)) (sym c.store.ensures),
       l.invariant.2 ∙ ap (λ (b : Bool). l.equal and b) seen
           ∙ (elim c.if-image-k.branch [
@@ -106,7 +69,7 @@ returns c =
     let l = c.loop-k in
     let a = c.args in
     let none : first_protected a.bits a.covered l.image (a.at + l.i) (length a.«data».now - l.i) ≡ None =
-    sym c.first_protected.ensures ∙ c.in_default.is in
+    sym c.in_default.ensures.first in
     let whole = storing a.bits a.covered a.image.now a.at a.«data».now in
     let left = rest_ends a.bits a.covered l.image a.at l.i a.«data».now (omega arith) (omega arith) none (omega arith) in
     let stored : c.store-2.new.image ≡ whole =
