@@ -3,18 +3,18 @@ use mathlib.Core.Bool.{Bool}
 use mathlib.Core.List.{List}
 use native.Mathlib.Omega.{arith}
 use native.Mathlib.Nat.{add-zero}
-use Prim.Native.Nat.{ℕ, ◌+◌, ◌-◌, ◌≤◌, ◌<◌}
+use Prim.Native.Nat.{ℕ, ◌+◌, ◌-◌}
 use lib.ListN.{length, take, drop}
-use lib.Seq.{sets, length-sets}
+use lib.Seq.{sets}
 use borrow.Author.Tests.{eq-eqb, ne_eqb}
 use Rattle.words.specs.Choice.{◌and◌, ◌is◌}
 use Rattle.words.specs.Bytes.{byte}
 use Rattle.words.proofs.Choices.{and_end, and_holds, and_fails, and_last}
 use Rattle.words.proofs.Lists.{tail_is}
 use Rattle.bits.specs.Bits.{first_protected}
-use Rattle.std.specs.Prelude.{Some, None}
+use Rattle.std.specs.Prelude.{None}
 use Rattle.stores.specs.Stores.{storing, ends_equal}
-use Rattle.stores.proofs.StoreLaws.{found_place, run_long, turn_stored, turn_ends, rest_stored, rest_ends}
+use Rattle.stores.proofs.StoreLaws.{run_long, turn_stored, turn_ends, rest_stored, rest_ends}
 use Rattle.stores.proofs.store_unprotected.Goals as goal
 use Rattle.stores.proofs.store_unprotected.Goals.{then-image-k, else-image-k}
 
