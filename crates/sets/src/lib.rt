@@ -32,6 +32,7 @@ pub fn set_of(msg: &[u8]) -> usize
 }
 
 // The same of a message that is too short for a set: what is not there counts as 0, and its bytes from offset 14 on are not.
+// It is apart for speed: one sum over `byte_at` for all takes 11 instructions more of 15 bytes, in a row of docs/MEASURED.md above its goal.
 fn short_set(msg: &[u8]) -> usize
     requires { length msg.now < 15 }
     ensures { result ≡ set_of msg.now }

@@ -24,8 +24,8 @@ loop-k-init c =
     let a = c.args in
     let from : a.at ≡ a.at + 0 = sym (add-zero a.at) in (
       omega arith,
-      ap (λ (k : ℕ). storing a.bits a.covered a.image.now k a.«data».now) from,
-      ap (λ (k : ℕ). ends_equal (storing a.bits a.covered a.image.now a.at a.«data».now) k a.«data».now) from,
+      ap (λ (k : ℕ). storing a.protection.bits a.protection.covered a.image.now k a.«data».now) from,
+      ap (λ (k : ℕ). ends_equal (storing a.protection.bits a.protection.covered a.image.now a.at a.«data».now) k a.«data».now) from,
     )
 
 -- ---- it found a protected byte
@@ -33,7 +33,7 @@ pub store-requires : goal.store-requires
 store-requires c =
     let l = c.loop-k in
     let a = c.args in
-    let long = run_long a.bits a.covered l.image a.at l.i c.in-Some.k a.«data».now (omega arith) (omega arith) (sym c.in-Some.ensures.first) in
+    let long = run_long a.protection.bits a.protection.covered l.image a.at l.i c.in-Some.k a.«data».now (omega arith) (omega arith) (sym c.in-Some.ensures.first) in
     omega (arith, long, c.in-Some.ensures.within)
 
 pub loop-k-preserved : goal.loop-k-preserved
@@ -43,9 +43,9 @@ loop-k-preserved c =
     let k : ℕ = c.in-Some.k in
     let end : ℕ = k - a.at in
     let vs : List ℕ = a.«data».now in
-    let whole : List ℕ = storing a.bits a.covered a.image.now a.at vs in
+    let whole : List ℕ = storing a.protection.bits a.protection.covered a.image.now a.at vs in
     let after : List ℕ = sets l.image (a.at + l.i) (take (end - l.i) (drop l.i vs)) in
-    let here = turn_ends a.bits a.covered l.image a.at l.i k vs (omega arith) (omega arith) (sym c.in-Some.ensures.first) (omega arith) in
+    let here = turn_ends a.protection.bits a.protection.covered l.image a.at l.i k vs (omega arith) (omega arith) (sym c.in-Some.ensures.first) (omega arith) in
     let left : Bool = ends_equal whole (a.at + (end + 1)) (drop (end + 1) vs) in
     let seen : ends_equal whole (a.at + l.i) (drop l.i vs) ≡ (byte c.store.new.image k is byte vs end and left) =
     ap (λ (x : List ℕ). ends_equal x (a.at + l.i) (drop l.i vs)) l.invariant.1
@@ -54,8 +54,8 @@ loop-k-preserved c =
     ∙ ap (λ (x : List ℕ). byte x k is byte vs end and left) (sym c.store.ensures) in (
       omega (arith, c.in-Some.ensures.within),
       l.invariant.1
-          ∙ turn_stored a.bits a.covered l.image a.at l.i k vs (omega arith) (omega arith) (sym c.in-Some.ensures.first)
-          ∙ ap (λ (x : List ℕ). storing a.bits a.covered x (a.at + (end + 1)) (drop (end + 1) vs)) (sym c.store.ensures),
+          ∙ turn_stored a.protection.bits a.protection.covered l.image a.at l.i k vs (omega arith) (omega arith) (sym c.in-Some.ensures.first)
+          ∙ ap (λ (x : List ℕ). storing a.protection.bits a.protection.covered x (a.at + (end + 1)) (drop (end + 1) vs)) (sym c.store.ensures),
       l.invariant.2 ∙ ap (λ (b : Bool). l.equal and b) seen
           ∙ (elim c.if-image-k.branch [
             | then-image-k w ↦ and_last l.equal (sym (and_fails left (ne_eqb _ _ w.if-image-k.true))) ∙ and_fails left w.equal-is
@@ -68,14 +68,14 @@ pub returns : goal.returns
 returns c =
     let l = c.loop-k in
     let a = c.args in
-    let none : first_protected a.bits a.covered l.image (a.at + l.i) (length a.«data».now - l.i) ≡ None =
+    let none : first_protected a.protection.bits a.protection.covered l.image (a.at + l.i) (length a.«data».now - l.i) ≡ None =
     sym c.in_default.ensures.first in
-    let whole = storing a.bits a.covered a.image.now a.at a.«data».now in
-    let left = rest_ends a.bits a.covered l.image a.at l.i a.«data».now (omega arith) (omega arith) none (omega arith) in
+    let whole = storing a.protection.bits a.protection.covered a.image.now a.at a.«data».now in
+    let left = rest_ends a.protection.bits a.protection.covered l.image a.at l.i a.«data».now (omega arith) (omega arith) none (omega arith) in
     let stored : c.store-2.new.image ≡ whole =
     c.store-2.ensures
     ∙ ap (sets l.image (a.at + l.i)) (tail_is l.i a.«data».now)
-    ∙ sym (l.invariant.1 ∙ rest_stored a.bits a.covered l.image a.at l.i a.«data».now (omega arith) (omega arith) none) in record {
+    ∙ sym (l.invariant.1 ∙ rest_stored a.protection.bits a.protection.covered l.image a.at l.i a.«data».now (omega arith) (omega arith) none) in record {
       stored = stored;
       report = sym (ap (λ (x : List ℕ). ends_equal x a.at a.«data».now) stored
           ∙ l.invariant.2

@@ -2,10 +2,10 @@
 use mathlib.Core.Path.{◌≡◌}
 use Prim.Native.Nat.{◌-◌, ◌≤◌}
 use Rattle.bits.specs.Bits.{first_protected}
-use Rattle.bits.proofs.first_protected.Given as goal
+use Rattle.bits.proofs.Protection.first_protected.Given as goal
 
 abbrev pub invariant-loop-k : goal.invariant-loop-k
-invariant-loop-k l = (l.«from» ≤ l.k) × (l.to ≤ l.covered) × (first_protected l.bits l.covered l.image l.«from» l.n ≡ first_protected l.bits l.covered l.image l.k (l.to - l.k))
+invariant-loop-k l = (l.«from» ≤ l.k) × (l.to ≤ l.self.covered) × (first_protected l.self.bits l.self.covered l.image l.«from» l.n ≡ first_protected l.self.bits l.self.covered l.image l.k (l.to - l.k))
 
 abbrev pub decreases-loop-k : goal.decreases-loop-k
 decreases-loop-k l = l.to - l.k
