@@ -1,12 +1,12 @@
--- Laws of a scan by trailing zeros: the zeros below a number's lowest one bit, the ones of a byte as the zeros of what is left of 511, and
+-- Laws of a scan by trailing zeros: the zeros below a number's lowest one bit, the ones of a byte as the zeros of what is left of 255, and
 -- the unprotected bytes that the ones of a protection byte, and of four that are FFh, are.
 use mathlib.Core.Path.{◌≡◌, refl, sym, ap, ap₂, ◌∙◌}
 use mathlib.Core.List.{List}
 use mathlib.Core.Bool.{Bool, true, false}
 use Prim.Native.Nat.{ℕ, zero, suc, ◌+◌, ◌-◌, ◌/◌, ◌%◌, ◌^◌, ◌≤◌, ◌<◌}
-use native.Mathlib.Nat.{div-div-eq-div-mul}
+use native.Mathlib.Nat.{div-div-eq-div-mul, div-le_self}
 use native.Mathlib.Omega.{arith}
-use lib.Count.{under, count_trailing_zeros}
+use lib.Count.{under, count_trailing_zeros, trailing_le}
 use lib.Dec.{ltb}
 use lib.Pow.{pow-add}
 use borrow.Author.Tests.{eqb-true, ltb-true, ltb-false}
@@ -53,8 +53,8 @@ unfolding count_trailing_zeros
 tz_none k n e = omega (arith, no_under (n % 2) (count_trailing_zeros k (n / 2)) e)
 
 -- ---- a byte turned round
--- what is left of 511 has a one where the byte has a zero, and a one behind the byte's end
-bits_turned_lem : (j b : ℕ) → j < 8 → b < 256 → bit_of (511 - b) j + bit_of b j ≡ 1
+-- what is left of 255 has a one where the byte has a zero
+bits_turned_lem : (j b : ℕ) → j < 8 → b < 256 → bit_of (255 - b) j + bit_of b j ≡ 1
 bits_turned_lem zero b h l = omega arith
 bits_turned_lem (suc zero) b h l = omega arith
 bits_turned_lem (suc (suc zero)) b h l = omega arith
@@ -73,16 +73,28 @@ bit_full : (j : ℕ) → j < 8 → bit_of 255 j ≡ 1
 unfolding all_below ◌and◌
 bit_full j h = eqb-true _ _ (each_below (λ (i : ℕ). bit_of 255 i is 1) 8 refl j h)
 
-pub ones_scanned : (k b i : ℕ) → b < 256 → i < 8 → OnesFrom b i (count_trailing_zeros (suc k) ((511 - b) / 2 ^ i))
-ones_scanned k b i small h =
-    let x : ℕ = (511 - b) / 2 ^ i in
-    let end : bit_of x (8 - i) ≡ 1 = (let e : i + (8 - i) ≡ 8 = omega arith in bit_shifted (511 - b) i (8 - i) ∙ ap (bit_of (511 - b)) e ∙ omega arith) in
-    let within : count_trailing_zeros (suc k) x ≤ 8 - i = tz_least (suc k) x (8 - i) end in
+pub ones_scanned : (b i : ℕ) → b < 256 → i < 8 → OnesFrom b i (count_trailing_zeros 8 (255 - b / 2 ^ i))
+ones_scanned b i small h =
+    let up : ℕ = b / 2 ^ i in
+    let x : ℕ = 255 - up in
+    let low : up < 256 = omega (arith, div-le_self b (2 ^ i)) in
+    let turned : (j : ℕ) → j < 8 → bit_of x j + bit_of b (i + j) ≡ 1 = λ j l. omega (arith, bits_turned_lem j up l low, bit_shifted b i j) in
+    let within : i + count_trailing_zeros 8 x ≤ 8 = go i h in
     record {
-      within = omega (arith, within);
-      ones = λ j l. omega (arith, tz_below (suc k) x j l, bit_shifted (511 - b) i j, bits_turned_lem (i + j) b (omega (arith, within)) small);
-      none = λ e. omega (arith, tz_none k x e, bits_turned_lem i b h small);
+      within = within;
+      ones = λ j l. omega (arith, tz_below 8 x j l, turned j (omega (arith, within)));
+      none = λ e. omega (arith, tz_none 7 x e, turned 0 (omega arith));
     }
+  where
+    go : (i : ℕ) → i < 8 → i + count_trailing_zeros 8 (255 - b / 2 ^ i) ≤ 8
+    go zero l = omega (arith, trailing_le 8 (255 - b / 2 ^ 0))
+    go (suc i) l =
+        let up : ℕ = b / 2 ^ suc i in
+        let beyond : bit_of b (suc i + (7 - i)) ≡ 0 = (let e : suc i + (7 - i) ≡ 8 = omega arith in ap (bit_of b) e ∙ omega arith) in
+        omega (
+          arith,
+          tz_least 8 (255 - up) (7 - i) (omega (arith, bits_turned_lem (7 - i) up (omega arith) (omega (arith, div-le_self b (2 ^ suc i))), bit_shifted b (suc i) (7 - i), beyond)),
+        )
 
 -- ---- a byte whose bit is 1 is not protected
 module _ (bits covered : ℕ) (image : List ℕ) where

@@ -20,13 +20,12 @@ fn clear(b: u8, i: usize) -> u8
     b & !(1u8 << i)
 }
 
-// How many bits from bit i on are 1, up to the first 0 or the byte's end: taken from 511 they are zeros, and a one stands behind the byte.
+// How many bits from bit i on are 1, up to the first 0 or the byte's end.
 fn ones_from(b: u8, i: usize) -> usize
     requires { i < 8 }
     ensures { OnesFrom b i result }
 {
-    let zeros = (511 - b as u16) >> i;
-    u16::trailing_zeros(zeros) as usize
+    (b >> i).trailing_ones() as usize
 }
 
 // The lower eight of nine bytes, low first, once they are moved down by less than a byte: eight are `low`, the ninth is `high`.
