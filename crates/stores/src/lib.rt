@@ -3,7 +3,7 @@
 // specs/Stores.antt.
 #![tactic(auto)]
 
-ghost use Rattle.std.specs.Prelude.{◌≡◌, ◌+◌, ◌/◌, ◌≤◌, length};
+ghost use Rattle.std.specs.Prelude.{◌≡◌, ◌+◌, ◌≤◌, length};
 ghost use Rattle.words.specs.Bounds.{largest};
 ghost use Rattle.bits.specs.Inner.{LiesIn};
 ghost use Rattle.stores.specs.Stores.{storing, ends_equal};
@@ -13,12 +13,7 @@ use pages::store;
 
 // The data stored from `at` on but where a byte is protected. The search gives the next protected place: the run before it is stored whole,
 // and that byte passed over. Whether each byte of the range ended equal to the one sent: one that was stored did.
-pub fn store_unprotected(
-    image: &mut [u8],
-    protection: Protection,
-    at: usize,
-    data: &[u8],
-) -> bool
+pub fn store_unprotected(image: &mut [u8], protection: Protection, at: usize, data: &[u8]) -> bool
     requires { (at + length «data».now ≤ protection.bits) × LiesIn protection image.old × (protection.bits ≤ largest) }
     ensures stored { image.new ≡ storing protection.bits protection.covered image.old at «data».now }
     ensures report { result ≡ ends_equal image.new at «data».now }

@@ -14,12 +14,6 @@ loop-k-init c =
           ∙ ap (λ (to : ℕ). first_protected a.self.bits a.self.covered a.image.now a.«from» (to - a.«from»)) (sym c.least-to.ensures),
     )
 
-pub overflow_add-k : goal.overflow_add-k
-overflow_add-k c = omega (arith, c.free_from-free.ensures.few)
-
-pub loop-k-smaller : goal.loop-k-smaller
-loop-k-smaller c = omega arith
-
 pub loop-k-preserved : goal.loop-k-preserved
 loop-k-preserved c =
     let l = c.loop-k in

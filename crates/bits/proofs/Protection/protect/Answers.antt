@@ -3,20 +3,11 @@ use native.Mathlib.Omega.{arith}
 use Prim.Native.Nat.{ℕ, ◌+◌}
 use lib.ListN.{length, drop}
 use mathlib.Core.List.{List}
-use native.Mathlib.Nat.{add-zero}
 use Rattle.bits.specs.Bits.{protected_count, protecting, protect_equal}
 use Rattle.bits.proofs.ProtectionLaws.{equal_hit, equal_miss, equal_end}
 use Rattle.bits.proofs.CountLaws.{count_protecting}
 use Rattle.bits.proofs.Protection.protect.Goals as goal
 use Rattle.bits.proofs.Protection.protect.Goals.{then-image-k, else-image-k}
-
-pub loop-i-init : goal.loop-i-init
-loop-i-init c =
-    let a = c.args in
-    (ap (λ (m : ℕ). protect_equal a.self.bits a.self.covered a.image.now m a.«data».now) (sym (add-zero a.at)), omega arith, omega arith)
-
-pub overflow_add-more : goal.overflow_add-more
-overflow_add-more c = omega (arith, c.protect_one-more.ensures.more)
 
 pub loop-i-preserved : goal.loop-i-preserved
 loop-i-preserved c =
