@@ -15,8 +15,7 @@ use Rattle.words.specs.Choice.{◌⇒◌⁏◌, ◌is◌}
 use Rattle.words.specs.Bytes.{byte}
 use Rattle.words.proofs.Choices.{first, rest, either}
 use Rattle.bits.specs.Bits.{bit_of, protection_bit, is_protected, first_protected, protecting, protect_equal}
-use Rattle.bits.specs.declared.Place.{Place}
-use Rattle.bits.specs.declared.Place.TheVariants.{At, Nowhere}
+use Rattle.std.specs.Prelude.{Option, Some, None}
 
 -- ---- one bit
 -- what a bit counts is in the number
@@ -45,11 +44,11 @@ module _ (bits covered : ℕ) where
     suc_left : k < to → to - k ≡ suc (to - (k + 1))
     suc_left h = omega arith
 
-    pub first_none : to ≤ k → first_protected bits covered image k (to - k) ≡ Nowhere
+    pub first_none : to ≤ k → first_protected bits covered image k (to - k) ≡ None
     unfolding first_protected
     first_none h = let e : to - k ≡ 0 = omega arith in rw e
 
-    pub first_here : k < to → is_protected bits covered image k ≡ true → first_protected bits covered image k (to - k) ≡ At k
+    pub first_here : k < to → is_protected bits covered image k ≡ true → first_protected bits covered image k (to - k) ≡ Some k
     unfolding first_protected ◌⇒◌⁏◌
     first_here h e = rw (suc_left h, e)
 
@@ -58,7 +57,7 @@ module _ (bits covered : ℕ) where
     first_later h e = rw (suc_left h, e)
 
   -- bytes past those covered are passed over
-  pub first_beyond : (image : List ℕ) (k n : ℕ) → covered ≤ k → first_protected bits covered image k n ≡ Nowhere
+  pub first_beyond : (image : List ℕ) (k n : ℕ) → covered ≤ k → first_protected bits covered image k n ≡ None
   unfolding first_protected ◌⇒◌⁏◌
   first_beyond image k zero h = refl
   first_beyond image k (suc n) h = rw (protected_beyond image k h) (first_beyond image (k + 1) n (omega arith))
@@ -73,7 +72,7 @@ module _ (bits covered : ℕ) where
           → (b : Bool) → ltb k covered ≡ b → first_protected bits covered image k (suc n) ≡ first_protected bits covered image k (min covered (k + suc n) - k)
       go later true e =
           let q : min covered (k + suc n) - k ≡ suc (min covered (k + 1 + n) - (k + 1)) = omega (arith, ltb-true k covered e) in
-          ap (λ (r : Place). is_protected bits covered image k ⇒ At k ⁏ r) later ∙ sym (ap (first_protected bits covered image k) q)
+          ap (λ (r : Option ℕ). is_protected bits covered image k ⇒ Some k ⁏ r) later ∙ sym (ap (first_protected bits covered image k) q)
       go later false e = first_beyond image k (suc n) (ltb-false k covered e) ∙ sym (first_beyond image k (min covered (k + suc n) - k) (ltb-false k covered e))
 
   -- it goes past m bytes that are not protected, and past the end
@@ -94,16 +93,16 @@ module _ (bits covered : ℕ) where
       go later false e = first_none image k to (ltb-false k to e) ∙ sym (first_none image (k + suc m) to (omega (arith, ltb-false k to e)))
 
   -- where it finds none, no byte of the range is protected
-  pub first_free : (image : List ℕ) (k n j : ℕ) → first_protected bits covered image k n ≡ Nowhere → k ≤ j → j < k + n → is_protected bits covered image j ≡ false
+  pub first_free : (image : List ℕ) (k n j : ℕ) → first_protected bits covered image k n ≡ None → k ≤ j → j < k + n → is_protected bits covered image j ≡ false
   unfolding first_protected ◌⇒◌⁏◌
   first_free image k zero j e h l = absurd (omega arith)
   first_free image k (suc n) j e h l = go (λ q r. first_free image (k + 1) n j q r (omega arith)) (is_protected bits covered image k) refl e (eqb k j) refl
     where
-      none : At k ≡ Nowhere → is_protected bits covered image j ≡ false
+      none : Some k ≡ None → is_protected bits covered image j ≡ false
       none q = cc
 
-      go : (first_protected bits covered image (k + 1) n ≡ Nowhere → k + 1 ≤ j → is_protected bits covered image j ≡ false)
-          → (b : Bool) → is_protected bits covered image k ≡ b → (b ⇒ At k ⁏ first_protected bits covered image (k + 1) n) ≡ Nowhere
+      go : (first_protected bits covered image (k + 1) n ≡ None → k + 1 ≤ j → is_protected bits covered image j ≡ false)
+          → (b : Bool) → is_protected bits covered image k ≡ b → (b ⇒ Some k ⁏ first_protected bits covered image (k + 1) n) ≡ None
           → (c : Bool) → eqb k j ≡ c → is_protected bits covered image j ≡ false
       go later true p q c r = none q
       go later false p q true r = ap (is_protected bits covered image) (sym (eqb-true k j r)) ∙ p
@@ -116,13 +115,13 @@ module _ (bits covered : ℕ) where
     pub here : is_protected bits covered image at ≡ true
     pub before : (j : ℕ) → k ≤ j → j < at → is_protected bits covered image j ≡ false
 
-  pub first_found : (image : List ℕ) (k n at : ℕ) → first_protected bits covered image k n ≡ At at → Found image k n at
+  pub first_found : (image : List ℕ) (k n at : ℕ) → first_protected bits covered image k n ≡ Some at → Found image k n at
   unfolding first_protected ◌⇒◌⁏◌
   first_found image k zero at e = let z : ◌≡◌ {A = ℕ} 0 1 = cc in absurd (omega arith)
   first_found image k (suc n) at e = go (first_found image (k + 1) n at) (is_protected bits covered image k) refl e
     where
-      go : (first_protected bits covered image (k + 1) n ≡ At at → Found image (k + 1) n at)
-          → (b : Bool) → is_protected bits covered image k ≡ b → (b ⇒ At k ⁏ first_protected bits covered image (k + 1) n) ≡ At at → Found image k (suc n) at
+      go : (first_protected bits covered image (k + 1) n ≡ Some at → Found image (k + 1) n at)
+          → (b : Bool) → is_protected bits covered image k ≡ b → (b ⇒ Some k ⁏ first_protected bits covered image (k + 1) n) ≡ Some at → Found image k (suc n) at
       go later true p q =
           let e : k ≡ at = cc in
           record { from = omega arith; within = omega arith; here = ap (is_protected bits covered image) (sym e) ∙ p; before = λ j h l. absurd (omega arith) }

@@ -1,15 +1,18 @@
--- Laws of a scan by trailing zeros: the zeros below a number's lowest one bit, the ones of a byte as the zeros of what is left of 511, and
--- the unprotected bytes that the ones of a protection byte, and of four that are FFh, are.
-use mathlib.Core.Path.{◌≡◌, refl, sym, ap, ap₂, ◌∙◌}
+-- Laws of a scan by trailing ones: those of a byte from any bit on, and the unprotected bytes that the ones of a protection byte, and of
+-- four that are FFh, are.
+use mathlib.Core.Path.{◌≡◌, refl, sym, ap, ap₂, subst⁻¹, ◌∙◌}
 use mathlib.Core.List.{List}
 use mathlib.Core.Bool.{Bool, true, false}
-use Prim.Native.Nat.{ℕ, zero, suc, ◌+◌, ◌-◌, ◌/◌, ◌%◌, ◌^◌, ◌≤◌, ◌<◌}
-use native.Mathlib.Nat.{div-div-eq-div-mul}
+use Prim.Native.Nat.{ℕ, ◌+◌, ◌-◌, ◌/◌, ◌%◌, ◌^◌, ◌≤◌, ◌<◌}
+use native.Mathlib.Nat.{div-div-eq-div-mul, div-le_self}
+use Rattle.std.specs.Int.{trailing_ones}
+use Rattle.std.proofs.Common.{w8}
+use Rattle.std.proofs.lemmas.Nat.Bits.{bit_at-trailing_ones}
 use native.Mathlib.Omega.{arith}
-use lib.Count.{under, count_trailing_zeros}
-use lib.Dec.{ltb}
+use lib.Count.{count_trailing_zeros}
+use lib.Dec.{eqb, leb, ltb}
 use lib.Pow.{pow-add}
-use borrow.Author.Tests.{eqb-true, ltb-true, ltb-false}
+use borrow.Author.Tests.{eqb-true, eqb-false, leb-true, leb-false, ltb-true, ltb-false}
 use Rattle.words.specs.Choice.{◌and◌, ◌is◌}
 use Rattle.words.specs.Bytes.{byte, four_at}
 use Rattle.words.proofs.Lists.{four_full}
@@ -17,55 +20,9 @@ use Rattle.words.proofs.Numbers.{all_below, each_below}
 use Rattle.bits.specs.Bits.{bit_of, is_protected}
 use Rattle.bits.specs.Inner.{OnesFrom, FreeFrom}
 use Rattle.bits.proofs.ProtectionLaws.{protected_covered, protected_beyond}
-use Rattle.bits.proofs.BitLaws.{bit_half}
 
--- ---- trailing zeros
--- every bit below the lowest one bit is 0
-low_zero : (n d t : ℕ) → n % 2 ≡ d → 0 < under d t → n % 2 ≡ 0
-low_zero n zero t e h = e
-low_zero n (suc d) t e h = absurd (omega arith)
-
-less_under : (d t j : ℕ) → suc j < under d t → j < t
-less_under zero t j h = omega arith
-less_under (suc d) t j h = absurd (omega arith)
-
-tz_below : (k n j : ℕ) → j < count_trailing_zeros k n → bit_of n j ≡ 0
-unfolding count_trailing_zeros
-tz_below zero n j h = absurd (omega arith)
-tz_below (suc k) n zero h = let e : n % 2 ≡ 0 = low_zero n (n % 2) (count_trailing_zeros k (n / 2)) refl h in omega arith
-tz_below (suc k) n (suc j) h = bit_half n j ∙ tz_below k (n / 2) j (less_under (n % 2) (count_trailing_zeros k (n / 2)) j h)
-
--- so it stands no higher than any one bit
-tz_least : (k n j : ℕ) → bit_of n j ≡ 1 → count_trailing_zeros k n ≤ j
-tz_least k n j e = go (ltb j (count_trailing_zeros k n)) refl
-  where
-    go : (b : Bool) → ltb j (count_trailing_zeros k n) ≡ b → count_trailing_zeros k n ≤ j
-    go true h = absurd (omega (arith, e, tz_below k n j (ltb-true _ _ h)))
-    go false h = ltb-false _ _ h
-
--- with no zeros below, the last bit is 1
-no_under : (d t : ℕ) → under d t ≡ 0 → 0 < d
-no_under zero t e = absurd (omega (arith, e))
-no_under (suc d) t e = omega arith
-
-tz_none : (k n : ℕ) → count_trailing_zeros (suc k) n ≡ 0 → n % 2 ≡ 1
-unfolding count_trailing_zeros
-tz_none k n e = omega (arith, no_under (n % 2) (count_trailing_zeros k (n / 2)) e)
-
--- ---- a byte turned round
--- what is left of 511 has a one where the byte has a zero, and a one behind the byte's end
-bits_turned_lem : (j b : ℕ) → j < 8 → b < 256 → bit_of (511 - b) j + bit_of b j ≡ 1
-bits_turned_lem zero b h l = omega arith
-bits_turned_lem (suc zero) b h l = omega arith
-bits_turned_lem (suc (suc zero)) b h l = omega arith
-bits_turned_lem (suc (suc (suc zero))) b h l = omega arith
-bits_turned_lem (suc (suc (suc (suc zero)))) b h l = omega arith
-bits_turned_lem (suc (suc (suc (suc (suc zero))))) b h l = omega arith
-bits_turned_lem (suc (suc (suc (suc (suc (suc zero)))))) b h l = omega arith
-bits_turned_lem (suc (suc (suc (suc (suc (suc (suc zero))))))) b h l = omega arith
-bits_turned_lem (suc (suc (suc (suc (suc (suc (suc (suc j)))))))) b h l = absurd (omega arith)
-
-pub bit_shifted : (n i j : ℕ) → bit_of (n / 2 ^ i) j ≡ bit_of n (i + j)
+-- ---- the ones of a byte, from its lowest bit on
+bit_shifted : (n i j : ℕ) → bit_of (n / 2 ^ i) j ≡ bit_of n (i + j)
 bit_shifted n i j = ap (λ (m : ℕ). m % 2) (div-div-eq-div-mul n (2 ^ i) (2 ^ j) ∙ ap (λ (m : ℕ). n / m) (sym (pow-add 2 i j)))
 
 -- FFh is ones
@@ -73,16 +30,36 @@ bit_full : (j : ℕ) → j < 8 → bit_of 255 j ≡ 1
 unfolding all_below ◌and◌
 bit_full j h = eqb-true _ _ (each_below (λ (i : ℕ). bit_of 255 i is 1) 8 refl j h)
 
-pub ones_scanned : (k b i : ℕ) → b < 256 → i < 8 → OnesFrom b i (count_trailing_zeros (suc k) ((511 - b) / 2 ^ i))
-ones_scanned k b i small h =
-    let x : ℕ = (511 - b) / 2 ^ i in
-    let end : bit_of x (8 - i) ≡ 1 = (let e : i + (8 - i) ≡ 8 = omega arith in bit_shifted (511 - b) i (8 - i) ∙ ap (bit_of (511 - b)) e ∙ omega arith) in
-    let within : count_trailing_zeros (suc k) x ≤ 8 - i = tz_least (suc k) x (8 - i) end in
-    record {
-      within = omega (arith, within);
-      ones = λ j l. omega (arith, tz_below (suc k) x j l, bit_shifted (511 - b) i j, bits_turned_lem (i + j) b (omega (arith, within)) small);
-      none = λ e. omega (arith, tz_none k x e, bits_turned_lem i b h small);
-    }
+-- n is how many ones x has from its lowest bit on, and it is a byte
+record Scanned (x n : ℕ) : Type 0 where
+  few : n ≤ 8
+  ones : (j : ℕ) → j < n → bit_of x j ≡ 1
+  none : n ≡ 0 → bit_of x 0 ≡ 0
+
+scanned_full : Scanned 255 (trailing_ones w8 255)
+unfolding count_trailing_zeros
+scanned_full = record { few = omega arith; ones = bit_full; none = λ z. absurd (omega arith) }
+
+scanned : (x : ℕ) → x < 256 → Scanned x (trailing_ones w8 x)
+scanned x small = go (eqb x 255) refl
+  where
+    go : (b : Bool) → eqb x 255 ≡ b → Scanned x (trailing_ones w8 x)
+    go false e =
+        let t = bit_at-trailing_ones w8 x (omega (arith, eqb-false x 255 e)) in
+        record { few = omega (arith, t.0); ones = t.2; none = λ z. ap (bit_of x) (sym z) ∙ t.1 }
+    go true e = subst⁻¹ (λ (y : ℕ). Scanned y (trailing_ones w8 y)) (eqb-true x 255 e) scanned_full
+
+-- and from any bit on
+pub ones_scanned : (b i : ℕ) → b < 256 → i < 8 → OnesFrom b i (trailing_ones w8 (b / 2 ^ i))
+ones_scanned b i small h =
+    let s = scanned (b / 2 ^ i) (omega (arith, div-le_self b (2 ^ i))) in
+    record { within = go s (leb (i + trailing_ones w8 (b / 2 ^ i)) 8) refl; ones = λ j l. sym (bit_shifted b i j) ∙ s.ones j l; none = λ e. omega (arith, s.none e, bit_shifted b i 0) }
+  where
+    go : Scanned (b / 2 ^ i) (trailing_ones w8 (b / 2 ^ i)) → (t : Bool) → leb (i + trailing_ones w8 (b / 2 ^ i)) 8 ≡ t → i + trailing_ones w8 (b / 2 ^ i) ≤ 8
+    go s true e = leb-true _ _ e
+    go s false e =
+        let end : i + (8 - i) ≡ 8 = omega arith in
+        absurd (omega (arith, s.ones (8 - i) (omega (arith, leb-false _ _ e)), bit_shifted b i (8 - i), ap (bit_of b) end))
 
 -- ---- a byte whose bit is 1 is not protected
 module _ (bits covered : ℕ) (image : List ℕ) where

@@ -1,9 +1,7 @@
 -- Protection bits: of a byte, the first protected one of a range, a byte protected, bits packed into bytes.
-use Rattle.std.specs.Prelude.{ℕ, zero, suc, ◌+◌, ◌-◌, ◌*◌, ◌/◌, ◌%◌, ◌^◌, Bool, false, List, [], ◌∷◌, take, drop, set, ltb}
+use Rattle.std.specs.Prelude.{ℕ, zero, suc, ◌+◌, ◌-◌, ◌*◌, ◌/◌, ◌%◌, ◌^◌, Bool, false, List, [], ◌∷◌, take, drop, set, ltb, Option, Some, None}
 use Rattle.words.specs.Choice.{◌⇒◌⁏◌, ◌and◌, ◌or◌, ◌is◌}
 use Rattle.words.specs.Bytes.{byte, series}
-use Rattle.bits.specs.declared.Place.{Place}
-use Rattle.bits.specs.declared.Place.TheVariants.{At, Nowhere}
 
 -- bit i of a byte, and the byte with that bit 0
 abbrev pub bit_of : ℕ → ℕ → ℕ
@@ -41,9 +39,9 @@ module _ (bits covered : ℕ) where
   protected_count image = zeros_of (take (covered / 8) (drop bits image))
 
   -- the first protected one of n bytes from k on: "the first protected byte in the range ends the search"
-  unfoldable pub first_protected : List ℕ → ℕ → ℕ → Place
-  first_protected image k zero = Nowhere
-  first_protected image k (suc n) = let r = first_protected image (k + 1) n in is_protected image k ⇒ At k ⁏ r
+  unfoldable pub first_protected : List ℕ → ℕ → ℕ → Option ℕ
+  first_protected image k zero = None
+  first_protected image k (suc n) = let r = first_protected image (k + 1) n in is_protected image k ⇒ Some k ⁏ r
 
   -- the image with byte k's protection bit 0
   unfoldable pub protecting : List ℕ → ℕ → List ℕ

@@ -1,6 +1,11 @@
 -- What an inner function does, where a rule speaks of the whole: this is no rule, and nobody was offered a promise of it.
-use Rattle.std.specs.Prelude.{◌≡◌, ℕ, ◌+◌, ◌≤◌, ◌<◌, true, false, List}
+use Rattle.std.specs.Prelude.{◌≡◌, ℕ, ◌+◌, ◌/◌, ◌≤◌, ◌<◌, true, false, List, length}
 use Rattle.bits.specs.Bits.{bit_of, is_protected}
+use Rattle.bits.specs.declared.Protection.{Protection}
+
+-- the protection bytes lie in an image, each of which holds eight bits
+abbrev pub LiesIn : Protection → List ℕ → Type 0
+LiesIn p image = p.bits + (p.covered + 7) / 8 ≤ length image
 
 -- n bits of a byte from bit i on are 1 and stand in the byte; where they are none, bit i is 0
 pub record OnesFrom (b i n : ℕ) : Type 0 where

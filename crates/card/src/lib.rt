@@ -1,4 +1,4 @@
-// Which images are a card of a kind: number 3 of what is turned down. No function has a `requires`.
+// Which images are a card of a kind: number 3 of what is turned down, and where such a card has its protection bits. No function has a `requires`.
 // The rule is written in specs/Images.antt.
 #![tactic(auto)]
 
@@ -6,8 +6,19 @@ ghost use Rattle.std.specs.Prelude.{◌≡◌};
 ghost use Rattle.chips.specs.Kinds.{facts};
 ghost use Rattle.card.specs.Images.{is_card};
 
+use bits::Protection;
 use chips::Chip;
 use words::four_at;
+
+// Where a card of this chip has its protection bits.
+pub fn protection(chip: Chip) -> Protection
+    ensures { (result.bits ≡ (facts chip).bits) × (result.covered ≡ (facts chip).covered) }
+{
+    Protection {
+        bits: chip.facts().bits,
+        covered: chip.facts().covered,
+    }
+}
 
 // Whether an image is a card of this chip: its length is the chip's, its counter is at most full, the counter's own protection bit is
 // not 0, and the bytes that have to be 00h are. A card without a code has no counter; one with a code has no such bytes. They are the
@@ -28,5 +39,5 @@ pub fn is_card(chip: Chip, image: &[u8]) -> bool
     if chip.facts().full < image[at] {
         return false;
     }
-    !bits::protected(image, chip.facts().bits, chip.facts().covered, at)
+    !protection(chip).protects(image, at)
 }

@@ -25,7 +25,7 @@ fn write_bytes(chip: Chip, page: u8, image: &mut [u8], at: usize, data: &[u8]) -
         pages::write(image, at, data, wide(page), chip.facts().page);
         return true;
     }
-    stores::store_unprotected(image, chip.facts().bits, chip.facts().covered, at, data)
+    stores::store_unprotected(image, card::protection(chip), at, data)
 }
 
 // D0: the report says 90 00, or 65 81.
@@ -61,7 +61,7 @@ pub fn protect(
         × (slot.protected ≡ count_in (facts chip) image.old) }
     ensures { Does (performed (facts chip) slot image.old «data».now (Order.Protect at)) result image.new out.old out.new }
 {
-    let more = bits::protect(image, chip.facts().bits, chip.facts().covered, at, data);
+    let more = card::protection(chip).protect(image, at, data);
     let len = put_two(out, 0, 0x90, 0x00);
     let next = slot.with_protected(slot.protected + more as u16);
     Told { len, slot: next }

@@ -1,14 +1,22 @@
 -- Laws of zero bits, four and eight bytes at a time: those of a number in bytes are those of its bytes.
-use mathlib.Core.Path.{◌≡◌, refl, ap, ◌∙◌}
-use mathlib.Core.List.{List}
+use mathlib.Core.Path.{◌≡◌, refl, sym, ap, ◌∙◌}
+use mathlib.Core.List.{List, ◌++◌}
 use Prim.Native.Nat.{ℕ, ◌+◌, ◌*◌, ◌≤◌, ◌<◌}
 use native.Mathlib.Omega.{arith}
 use lib.Count.{ones, ones_cat, ones-le}
-use lib.ListN.{length, drop}
+use lib.ListN.{length, drop, length-drop, length-append, get_or-append}
+use lib.Seq.{drop-drop, drop-append_seam, get_or-drop}
 use Rattle.words.specs.Bytes.{byte, four_at, eight_at}
 use Rattle.words.proofs.Lists.{four_fits}
 use Rattle.bits.specs.Bits.{zeros_of}
 use Rattle.bits.proofs.CountLaws.{zeros_ones, zeros_step}
+
+-- eight bytes were taken from the front of what is behind m bytes
+pub record Taken (l : List ℕ) (m : ℕ) (front rest : List ℕ) : Type 0 where
+  pub few : ones (eight_at front 0) ≤ 64
+  pub long : m + 8 + length rest ≡ length l
+  pub behind : rest ≡ drop (m + 8) l
+  pub zeros : zeros_of (drop m l) + ones (eight_at front 0) ≡ 64 + zeros_of rest
 
 module _ (l : List ℕ) (b : (k : ℕ) → byte l k < 256) where
   -- one byte, and the rest
@@ -63,3 +71,42 @@ module _ (l : List ℕ) (b : (k : ℕ) → byte l k < 256) where
   zeros_eight k h =
       let e : k + 4 + 4 ≡ k + 8 = omega arith in
       omega (arith, ones_eight k, zeros_four k (omega arith), zeros_four (k + 4) (omega arith), ap (λ (j : ℕ). zeros_of (drop j l)) e)
+
+  -- the same, where they were taken from the front
+  module _ (m : ℕ) (front rest : List ℕ) (e : drop m l ≡ front ++ rest) (n : length front ≡ 8) where
+    byte_front : (j k : ℕ) → j < 8 → m + j ≡ k → byte front j ≡ byte l k
+    byte_front j k h q =
+        sym (get_or-append front rest 0 j (omega (arith, n)))
+        ∙ ap (λ (t : List ℕ). byte t j) (sym e)
+        ∙ get_or-drop m l j 0
+        ∙ ap (byte l) q
+
+    eight_front : eight_at front 0 ≡ eight_at l m
+    unfolding eight_at four_at
+    eight_front =
+        omega (
+          arith,
+          byte_front 0 m (omega arith) (omega arith),
+          byte_front 1 (m + 1) (omega arith) refl,
+          byte_front 2 (m + 2) (omega arith) refl,
+          byte_front 3 (m + 3) (omega arith) refl,
+          byte_front 4 (m + 4) (omega arith) refl,
+          byte_front 5 (m + 4 + 1) (omega arith) (omega arith),
+          byte_front 6 (m + 4 + 2) (omega arith) (omega arith),
+          byte_front 7 (m + 4 + 3) (omega arith) (omega arith),
+        )
+
+    front_long : m + 8 + length rest ≡ length l
+    front_long = omega (arith, ap length e, length-drop m l, length-append front rest, n)
+
+    front_rest : rest ≡ drop (m + 8) l
+    front_rest = sym (ap (λ (k : ℕ). drop (m + k) l) (sym n) ∙ sym (drop-drop (length front) m l) ∙ ap (drop (length front)) e ∙ drop-append_seam front rest)
+
+    pub front_taken : Taken l m front rest
+    front_taken =
+        record {
+          few = omega (arith, ap ones eight_front, eight_few m);
+          long = front_long;
+          behind = front_rest;
+          zeros = omega (arith, ap ones eight_front, zeros_eight m (omega (arith, front_long)), ap zeros_of front_rest);
+        }

@@ -42,13 +42,11 @@ fn zeros_in(bytes: &[u8]) -> usize
     ensures { result ≡ zeros_of bytes.now }
 {
     let mut zeros = 0;
-    let mut i = 0;
-    while 8 <= bytes.len() - i {
-        zeros += 64 - usize::count_ones(eight_at(bytes, i)) as usize;
-        i += 8;
+    for eight in bytes.chunks_exact(8) {
+        zeros += 64 - usize::count_ones(eight_at(eight, 0)) as usize;
     }
-    if i < bytes.len() {
-        zeros += 32 - usize::count_ones(four_at(bytes, i)) as usize;
+    if bytes.len() % 8 != 0 {
+        zeros += 32 - usize::count_ones(four_at(bytes, bytes.len() - 4)) as usize;
     }
     zeros
 }

@@ -129,7 +129,7 @@ pub fn read_bits(chip: Chip, slot: Slot, image: &[u8], at: usize, n: usize, out:
     requires { (least_tail ≤ length out.old) × (length image.now ≡ (facts chip).size) × (at + 8 * n ≤ (facts chip).covered) × (n ≤ 32) }
     ensures { (b : List ℕ) → Does (performed (facts chip) slot image.now b (Order.Bits at n)) result image.now out.old out.new }
 {
-    bits::read_bits(image, chip.facts().bits, chip.facts().covered, at, n, out);
+    card::protection(chip).read_bits(image, at, n, out);
     let len = put_two(out, n, 0x90, 0x00);
     Told { len, slot }
 }

@@ -32,6 +32,7 @@ pub fn set_of(msg: &[u8]) -> usize
 }
 
 // The same of a message that is too short for a set: what is not there counts as 0, and its bytes from offset 14 on are not.
+// It is apart for speed: one sum over `byte_at` for all takes 11 instructions more of 15 bytes, in a row of docs/MEASURED.md above its goal.
 fn short_set(msg: &[u8]) -> usize
     requires { length msg.now < 15 }
     ensures { result ≡ set_of msg.now }
@@ -47,16 +48,11 @@ fn short_set(msg: &[u8]) -> usize
 fn length_of(set: usize) -> usize
     ensures { result ≡ length_of set }
 {
-    if byte_of(set, 0) != 0 {
-        return 7;
+    if byte_of(set, 0) == 0 && byte_of(set, 6) == 0 && byte_of(set, 7) == 0 {
+        5
+    } else {
+        7
     }
-    if byte_of(set, 6) != 0 {
-        return 7;
-    }
-    if byte_of(set, 7) != 0 {
-        return 7;
-    }
-    5
 }
 
 // Its bytes, into the lent tail of the answer buffer, and how many.
@@ -65,10 +61,8 @@ pub fn put_set(set: usize, out: &mut [u8]) -> usize
     ensures { (result ≡ length (bytes_of set)) × (out.new ≡ over (bytes_of set) out.old) × (result ≤ 7) }
 {
     let n = length_of(set);
-    let mut i = 0;
-    while i < n {
+    for i in 0..n {
         out[i] = byte_of(set, i + 1);
-        i += 1;
     }
     n
 }
@@ -92,13 +86,7 @@ fn fits_length(protocol: u8, n: usize) -> bool
 fn reserved(entry: u8, one: u8, other: u8, last: u8) -> bool
     ensures { result ≡ (entry is one or entry is other or leb last entry) }
 {
-    if entry == one {
-        return true;
-    }
-    if entry == other {
-        return true;
-    }
-    last <= entry
+    entry == one || entry == other || last <= entry
 }
 
 // The upper six bits of the checksum byte.

@@ -16,7 +16,7 @@ use Rattle.words.specs.Bytes.{byte, same}
 use Rattle.words.proofs.Choices.{either, first, rest, and_holds}
 use Rattle.words.proofs.Lists.{byte_sets}
 use Rattle.bits.specs.Bits.{is_protected, first_protected}
-use Rattle.bits.specs.declared.Place.TheVariants.{At, Nowhere}
+use Rattle.std.specs.Prelude.{Some, None}
 use Rattle.bits.proofs.ProtectionLaws.{Found, first_free, first_found}
 use Rattle.bits.proofs.BitLaws.{bit_same, protected_same}
 use Rattle.stores.specs.Stores.{storing, ends_equal}
@@ -169,7 +169,7 @@ module _ (bits covered : ℕ) where
 
   -- ---- the search found a protected byte: its run is stored and it is passed over, i bytes having been sent before
   module _ (image : List ℕ) (at i k : ℕ) (vs : List ℕ) (h : at + length vs ≤ bits) (w : i ≤ length vs)
-      (e : first_protected bits covered image (at + i) (length vs - i) ≡ At k) where
+      (e : first_protected bits covered image (at + i) (length vs - i) ≡ Some k) where
     abbrev end : ℕ
     end = k - at
 
@@ -182,7 +182,7 @@ module _ (bits covered : ℕ) where
     found : Found bits covered image (at + i) (length vs - i) k
     found = first_found bits covered image (at + i) (length vs - i) k e
 
-    pub found_place : (at + i ≤ k) × (k < at + length vs)
+    found_place : (at + i ≤ k) × (k < at + length vs)
     found_place = (found.from, omega (arith, found.within))
 
     pub run_long : length run ≡ end - i
@@ -223,7 +223,7 @@ module _ (bits covered : ℕ) where
 
   -- ---- it found none: what is left is stored, and ends equal
   module _ (image : List ℕ) (at i : ℕ) (vs : List ℕ) (h : at + length vs ≤ bits) (w : i ≤ length vs)
-      (e : first_protected bits covered image (at + i) (length vs - i) ≡ Nowhere) where
+      (e : first_protected bits covered image (at + i) (length vs - i) ≡ None) where
     pub rest_stored : storing bits covered image (at + i) (drop i vs) ≡ sets image (at + i) (drop i vs)
     unfolding storing
     rest_stored =

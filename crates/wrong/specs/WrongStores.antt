@@ -1,11 +1,9 @@
 -- Wrong readers of D0 on the four kinds that have protection bits: whether it is let through, what it stores, what is reported of it, and what the
 -- report does.
-use Rattle.std.specs.Prelude.{ℕ, zero, suc, ◌+◌, ◌-◌, ◌%◌, Bool, true, false, not, List, [], ◌∷◌, length, set, leb, ltb}
+use Rattle.std.specs.Prelude.{ℕ, zero, suc, ◌+◌, ◌-◌, ◌%◌, Bool, true, false, not, List, [], ◌∷◌, length, set, leb, ltb, Option, Some, None}
 use Rattle.std.proofs.lemmas.List.Edits.{sets}
 use Rattle.words.specs.Choice.{◌⇒◌⁏◌, ◌and◌, ◌or◌, ◌is◌, ◌isnt◌}
 use Rattle.words.specs.Bytes.{byte, same}
-use Rattle.bits.specs.declared.Place.{Place}
-use Rattle.bits.specs.declared.Place.TheVariants.{At, Nowhere}
 use Rattle.bits.specs.Bits.{is_protected, first_protected}
 use Rattle.stores.specs.Stores.{storing, ends_equal}
 use Rattle.codes.specs.Codes.{spending}
@@ -21,9 +19,9 @@ use Rattle.wrong.specs.WrongPlain.{freed}
 abbrev pub kept : Facts → List ℕ → ℕ → Bool
 kept f image k = is_protected f.bits f.covered image k
 
-abbrev pub found : Place → Bool
-found (At k) = true
-found Nowhere = false
+abbrev pub found : Option ℕ → Bool
+found (Some k) = true
+found None = false
 
 abbrev pub some_kept : Facts → List ℕ → ℕ → ℕ → Bool
 some_kept f image at n = found (first_protected f.bits f.covered image at n)

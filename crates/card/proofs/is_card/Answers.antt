@@ -1,5 +1,5 @@
 -- `is_card` meets its contract: its tests are the rule's, in its order; with no code the length counts, and the last four bytes where they have to be 00h.
-use mathlib.Core.Path.{◌≡◌, sym, ap, ◌∙◌}
+use mathlib.Core.Path.{◌≡◌, sym, ap, ap₂, ◌∙◌}
 use mathlib.Core.Bool.{Bool, true, false, not}
 use native.Mathlib.Omega.{arith}
 use mathlib.Core.Logic.{◌≢◌}
@@ -88,12 +88,10 @@ returns-then-facts-image c =
     and_holds (eq-eqb _ _ (image_sized (goal.at.returns-then-facts-image c).Else-image-facts))
     (and_fails _ (lt-leb (byte a.image.now (facts a.chip).counter) (facts a.chip).full (omega (arith, ap (byte a.image.now) at, full, c.if-facts-image.true))))
 
-pub protected-requires : goal.protected-requires
-protected-requires c =
-    let chip = c.args.chip in
-    let bits : c.facts-4.result.bits ≡ (facts chip).bits = ap (λ (f : Facts). f.bits) c.facts-4.ensures in
-    let covered : c.facts-5.result.covered ≡ (facts chip).covered = ap (λ (f : Facts). f.covered) c.facts-5.ensures in
-    omega (arith, bits, covered, (laid chip).guards, image_sized (goal.at.protected-requires c).Else-image-facts)
+pub protects-requires : goal.protects-requires
+protects-requires c =
+    let p = c.protection.ensures in
+    omega (arith, p, (laid c.args.chip).guards, image_sized (goal.at.protects-requires c).Else-image-facts)
 
 pub returns : goal.returns
 unfolding is_card
@@ -101,10 +99,11 @@ returns c =
     let on = goal.at.returns c in
     let a = c.args in
     let f = facts a.chip in
-    let e8 = c.facts-4.ensures in
-    let e9 = c.facts-5.ensures in
-    let e6 = c.facts-at.ensures in
-    let p : c.protected.result ≡ is_protected f.bits f.covered a.image.now f.counter = cc in
+    let at = ap (λ (f : Facts). f.counter) c.facts-at.ensures in
+    let p : c.protects.result ≡ is_protected f.bits f.covered a.image.now f.counter =
+    c.protects.ensures
+    ∙ ap₂ (λ (x y : ℕ). is_protected x y a.image.now c.facts-at.result.counter) c.protection.ensures.0 c.protection.ensures.1
+    ∙ ap (is_protected f.bits f.covered a.image.now) at in
     let x : Bool = not (is_protected f.bits f.covered a.image.now f.counter) in
     let z = coded_zeros a.chip a.image.now (with_code on.Else-not-facts) (image_sized on.Else-image-facts) in
     and_holds (eq-eqb _ _ (image_sized on.Else-image-facts))

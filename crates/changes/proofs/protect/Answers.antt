@@ -18,18 +18,17 @@ use Rattle.changes.proofs.protect.Goals.{After-protect-more}
 pub protect-more-requires : goal.protect-more-requires
 protect-more-requires c =
     let l = laid c.args.chip in
-    let bits = ap (λ (f : Facts). f.bits) c.facts.ensures in
-    let covered = ap (λ (f : Facts). f.covered) c.facts-2.ensures in (
+    let p = c.protection.ensures in (
       omega (arith, l.reached, l.kept, l.front),
-      omega (arith, l.reached, covered),
-      omega (arith, l.words, covered),
-      omega (arith, l.guards, bits, covered),
+      omega (arith, l.reached, p.1),
+      omega (arith, l.words, p.1),
+      omega (arith, l.guards, p),
     )
 
 -- ---- what the protection left
 numbers : {A : Type 0} (p : After-protect-more) (g : ℕ → ℕ → A) → let f = facts p.args.chip in
-    g p.facts.result.bits p.facts-2.result.covered ≡ g f.bits f.covered
-numbers p g = ap₂ g (ap (λ (f : Facts). f.bits) p.facts.ensures) (ap (λ (f : Facts). f.covered) p.facts-2.ensures)
+    g p.protection.result.bits p.protection.result.covered ≡ g f.bits f.covered
+numbers p g = ap₂ g p.protection.ensures.0 p.protection.ensures.1
 
 image_after : (p : After-protect-more) → let a = p.args in let f = facts a.chip in
     p.protect-more.new.image ≡ protect_equal f.bits f.covered a.image.now a.at a.«data».now

@@ -51,19 +51,16 @@ no_pages c = sym (ap (λ (f : Facts). f.page) c.facts.ensures) ∙ c.if-facts-ne
 pub store_unprotected-requires : goal.store_unprotected-requires
 store_unprotected-requires c =
     let l = laid c.args.chip in
-    let bits = ap (λ (f : Facts). f.bits) c.facts-2.ensures in
-    let covered = ap (λ (f : Facts). f.covered) c.facts-3.ensures in
-    (omega (arith, bits, l.behind), omega (arith, bits, covered, l.guards), omega (arith, bits, l.guards, l.modest))
+    let p = c.protection.ensures in
+    (omega (arith, p.0, l.behind), omega (arith, p, l.guards), omega (arith, p.0, l.guards, l.modest))
 
 pub returns : goal.returns
 unfolding written
 returns c =
     let a = c.args in
-    let f = facts a.chip in
-    let bits = ap (λ (f : Facts). f.bits) c.facts-2.ensures in
-    let covered = ap (λ (f : Facts). f.covered) c.facts-3.ensures in record {
+    let f = facts a.chip in record {
       image = c.store_unprotected.ensures.stored
-          ∙ ap₂ (λ (x y : ℕ). storing x y a.image.now a.at a.«data».now) bits covered
+          ∙ ap₂ (λ (x y : ℕ). storing x y a.image.now a.at a.«data».now) c.protection.ensures.0 c.protection.ensures.1
           ∙ passed _ (ap not (eq-eqb f.page 0 (no_pages (goal.at.returns c).Else-facts-ne0))) refl;
       report = or_passed (ne_eqb f.covered 0 (λ e. omega (arith, pageless_bits a.chip (no_pages (goal.at.returns c).Else-facts-ne0)))) c.store_unprotected.ensures.report;
     }

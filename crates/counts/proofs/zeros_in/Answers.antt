@@ -1,104 +1,89 @@
-use mathlib.Core.Path.{◌≡◌, ap}
+use mathlib.Core.Path.{◌≡◌, sym, ap, ◌∙◌}
 use native.Mathlib.Omega.{arith}
-use Prim.Native.Nat.{ℕ, ◌+◌, ◌≤◌}
+use Prim.Native.Nat.{ℕ, ◌+◌, ◌-◌, ◌≤◌}
 use lib.Count.{ones}
 use lib.ListN.{length, drop}
 use Rattle.bits.specs.Bits.{zeros_of}
 use Rattle.bits.proofs.CountLaws.{zeros_few, zeros_end}
-use Rattle.counts.proofs.ZeroLaws.{four_few, eight_few, zeros_four, zeros_eight}
+use Rattle.counts.proofs.ZeroLaws.{Taken, four_few, zeros_four, front_taken}
 use Rattle.counts.proofs.zeros_in.Goals as goal
 use Rattle.counts.proofs.zeros_in.Goals.{After-eight_at, After-four_at}
 
-pub loop-i-init : goal.loop-i-init
-loop-i-init c = (omega arith, omega arith, omega arith)
-
--- eight bytes, and what is behind them
-few : (c : After-eight_at) → ones c.eight_at.result ≤ 64
-few c =
-    omega (arith, ap ones c.eight_at.ensures, eight_few c.args.bytes.now (λ k. omega (arith, c.type_inv.bytes k)) c.loop-i.i)
-
-turn : (c : After-eight_at) → let l = c.loop-i in let b = c.args.bytes.now in
-    zeros_of (drop l.i b) + ones c.eight_at.result ≡ 64 + zeros_of (drop (l.i + 8) b)
-turn c =
-    let l = c.loop-i in
+-- ---- eight bytes
+-- they stood in front of what was left
+front : (c : After-eight_at) → let b = c.args.bytes.now in
+    Taken b (length b - length c.loop-eight.eight-iterator.rest.now) c.in-Some.eight.now c.next.new.self.rest.now
+front c =
+    let l = c.loop-eight in
     let b = c.args.bytes.now in
-    omega (arith, ap ones c.eight_at.ensures, zeros_eight b (λ k. omega (arith, c.type_inv.bytes k)) l.i (omega arith))
+    let step = c.in-Some.ensures.steps in
+    front_taken b (λ k. omega (arith, c.type_inv.bytes k)) (length b - length l.eight-iterator.rest.now) c.in-Some.eight.now c.next.new.self.rest.now
+    (sym l.invariant.3 ∙ step.1.0) (step.1.1 ∙ l.invariant.0)
 
-pub overflow_cast-zeros : goal.overflow_cast-zeros
-overflow_cast-zeros c = omega (arith, few (goal.at.overflow_cast-zeros c).After-eight_at)
+-- what is left has so many zeros less
+turn : (c : After-eight_at) → let l = c.loop-eight in
+    l.zeros + (64 - ones c.eight_at.result) + zeros_of c.next.new.self.rest.now ≡ zeros_of c.args.bytes.now
+turn c =
+    let l = c.loop-eight in
+    omega (arith, ap ones c.eight_at.ensures, (front c).few, (front c).zeros, ap zeros_of l.invariant.3, l.invariant.4)
 
 pub overflow_sub-zeros : goal.overflow_sub-zeros
-overflow_sub-zeros c = few (goal.at.overflow_sub-zeros c).After-eight_at
+overflow_sub-zeros c =
+    let on = (goal.at.overflow_sub-zeros c).After-eight_at in
+    omega (arith, ap ones c.eight_at.ensures, (front on).few)
 
 pub overflow_add-zeros : goal.overflow_add-zeros
-overflow_add-zeros c =
-    omega (
-      arith,
-      few (goal.at.overflow_add-zeros c).After-eight_at,
-      turn (goal.at.overflow_add-zeros c).After-eight_at,
-      c.loop-i.invariant.2,
-      zeros_few c.args.bytes.now,
-      c.requires.0,
+overflow_add-zeros c = omega (arith, turn (goal.at.overflow_add-zeros c).After-eight_at, zeros_few c.args.bytes.now, c.requires.0)
+
+pub loop-eight-preserved : goal.loop-eight-preserved
+loop-eight-preserved c =
+    let on = (goal.at.loop-eight-preserved c).After-eight_at in
+    let l = c.loop-eight in
+    let b = c.args.bytes.now in
+    let rest = c.next.new.self.rest.now in
+    let next : length b - length l.eight-iterator.rest.now + 8 ≡ length b - length rest = omega (arith, (front on).long) in (
+      c.in-Some.ensures.steps.0 ∙ l.invariant.0,
+      omega (arith, (front on).long),
+      omega (arith, (front on).long, l.invariant.1, l.invariant.2),
+      (front on).behind ∙ ap (λ (k : ℕ). drop k b) next,
+      turn on,
     )
 
-pub loop-i-preserved : goal.loop-i-preserved
-loop-i-preserved c = (
-  omega arith,
-  omega (arith, c.loop-i.invariant.1),
-  omega (
-    arith,
-    few (goal.at.loop-i-preserved c).After-eight_at,
-    turn
-        (goal.at.loop-i-preserved c).After-eight_at,
-    c.loop-i.invariant.2,
-  ),
-)
+-- ---- the last four bytes
+few : (c : After-four_at) → ones c.four_at.result ≤ 32
+few c = omega (arith, ap ones c.four_at.ensures, four_few c.args.bytes.now (λ k. omega (arith, c.type_inv.bytes k)) (length c.args.bytes.now - 4))
 
-pub four_at-requires : goal.four_at-requires
-four_at-requires c = omega (arith, c.loop-i.invariant.1, c.requires.1)
-
--- the last four bytes
-few_2 : (c : After-four_at) → ones c.four_at.result ≤ 32
-few_2 c =
-    omega (arith, ap ones c.four_at.ensures, four_few c.args.bytes.now (λ k. omega (arith, c.type_inv.bytes k)) c.loop-i.i)
-
-turn_2 : (c : After-four_at) → let l = c.loop-i in let b = c.args.bytes.now in
-    zeros_of (drop l.i b) + ones c.four_at.result ≡ 32
-turn_2 c =
-    let l = c.loop-i in
+-- they are what is left
+last : (c : After-four_at) → c.loop-eight.zeros + (32 - ones c.four_at.result) ≡ zeros_of c.args.bytes.now
+last c =
+    let l = c.loop-eight in
     let b = c.args.bytes.now in
-    let e : l.i + 4 ≡ length b = omega (arith, l.invariant.1, c.requires.1) in
+    let left : length l.eight-iterator.rest.now ≡ 4 = omega (arith, l.invariant.2, l.invariant.0, c.in-None.ensures.steps.1.0, c.requires.1) in
+    let end : length b - 4 + 4 ≡ length b = omega (arith, left, l.invariant.1) in
     omega (
       arith,
+      few c,
       ap ones c.four_at.ensures,
-      zeros_four b (λ k. omega (arith, c.type_inv.bytes k)) l.i (omega arith),
-      ap (λ (k : ℕ). zeros_of (drop k b)) e,
+      zeros_four b (λ k. omega (arith, c.type_inv.bytes k)) (length b - 4) (omega (arith, end)),
+      ap (λ (k : ℕ). zeros_of (drop k b)) end,
       zeros_end b,
+      ap zeros_of l.invariant.3 ∙ ap (λ (n : ℕ). zeros_of (drop (length b - n) b)) left,
+      l.invariant.4,
     )
 
-pub overflow_cast-zeros-then-i-bytes : goal.overflow_cast-zeros-then-i-bytes
-overflow_cast-zeros-then-i-bytes c = omega (arith, few_2 (goal.at.overflow_cast-zeros-then-i-bytes c).After-four_at)
+pub overflow_sub-zeros-then-bytes-ne0 : goal.overflow_sub-zeros-then-bytes-ne0
+overflow_sub-zeros-then-bytes-ne0 c = few (goal.at.overflow_sub-zeros-then-bytes-ne0 c).After-four_at
 
-pub overflow_sub-zeros-then-i-bytes : goal.overflow_sub-zeros-then-i-bytes
-overflow_sub-zeros-then-i-bytes c = few_2 (goal.at.overflow_sub-zeros-then-i-bytes c).After-four_at
+pub overflow_add-zeros-then-bytes-ne0 : goal.overflow_add-zeros-then-bytes-ne0
+overflow_add-zeros-then-bytes-ne0 c =
+    omega (arith, last (goal.at.overflow_add-zeros-then-bytes-ne0 c).After-four_at, zeros_few c.args.bytes.now, c.requires.0)
 
-pub overflow_add-zeros-then-i-bytes : goal.overflow_add-zeros-then-i-bytes
-overflow_add-zeros-then-i-bytes c =
-    omega (
-      arith,
-      few_2 (goal.at.overflow_add-zeros-then-i-bytes c).After-four_at,
-      turn_2 (goal.at.overflow_add-zeros-then-i-bytes c).After-four_at,
-      c.loop-i.invariant.2,
-      zeros_few c.args.bytes.now,
-      c.requires.0,
-    )
+pub returns-then-bytes-ne0 : goal.returns-then-bytes-ne0
+returns-then-bytes-ne0 c = last (goal.at.returns-then-bytes-ne0 c).After-four_at
 
-pub returns-then-i-bytes : goal.returns-then-i-bytes
-returns-then-i-bytes c = omega (arith, few_2 (goal.at.returns-then-i-bytes c).After-four_at, turn_2 (goal.at.returns-then-i-bytes c).After-four_at, c.loop-i.invariant.2)
-
-pub returns-else-i-bytes : goal.returns-else-i-bytes
-returns-else-i-bytes c =
-    let l = c.loop-i in
-    let b = c.args.bytes.now in
-    let e : l.i ≡ length b = omega arith in
-    omega (arith, l.invariant.2, ap (λ (k : ℕ). zeros_of (drop k b)) e, zeros_end b)
+-- ---- none are left
+pub returns-else-bytes-ne0 : goal.returns-else-bytes-ne0
+returns-else-bytes-ne0 c =
+    let l = c.loop-eight in
+    let left : length l.eight-iterator.rest.now ≡ 0 = omega (arith, l.invariant.2, l.invariant.0, c.in-None.ensures.steps.1.0) in
+    omega (arith, left, zeros_few l.eight-iterator.rest.now, l.invariant.4)

@@ -1,11 +1,10 @@
 -- `read_bits` meets its contract: the protection bits, and 90 00 behind them.
-use mathlib.Core.Path.{◌≡◌, refl, ap, ◌∙◌}
+use mathlib.Core.Path.{◌≡◌, refl, ap₂, ◌∙◌}
 use mathlib.Core.List.{List}
 use native.Mathlib.Omega.{arith}
 use Prim.Native.Nat.{ℕ}
 use lib.ListN.{length}
 use Rattle.words.specs.Bytes.{over}
-use Rattle.chips.specs.declared.Facts.{Facts}
 use Rattle.chips.specs.Kinds.{facts}
 use Rattle.chips.proofs.KindLaws.{laid}
 use Rattle.bits.specs.Bits.{packed_bytes}
@@ -17,9 +16,8 @@ use Rattle.orders.proofs.read_bits.Goals as goal
 
 pub read_bits-requires : goal.read_bits-requires
 read_bits-requires c =
-    let bits = ap (λ (f : Facts). f.bits) c.facts.ensures in
-    let covered = ap (λ (f : Facts). f.covered) c.facts-2.ensures in
-    (omega (arith, covered), omega (arith, (laid c.args.chip).guards, bits, covered), omega arith)
+    let p = c.protection.ensures in
+    (omega (arith, p.1), omega (arith, (laid c.args.chip).guards, p), omega arith)
 
 pub returns : goal.returns
 unfolding said_by image_by slot_by
@@ -30,8 +28,6 @@ returns c b =
     let long : length d ≡ a.n = length_packed_bytes f.bits f.covered a.image.now a.at a.n in
     let told : c.read_bits.new.out ≡ over d a.out.now =
     c.read_bits.ensures
-    ∙ ap (λ (x : Facts). over (packed_bytes x.bits c.facts-2.result.covered a.image.now a.at a.n) a.out.now)
-    c.facts.ensures
-    ∙ ap (λ (x : Facts). over (packed_bytes f.bits x.covered a.image.now a.at a.n) a.out.now) c.facts-2.ensures in
+    ∙ ap₂ (λ (x y : ℕ). over (packed_bytes x y a.image.now a.at a.n) a.out.now) c.protection.ensures.0 c.protection.ensures.1 in
     does_tell f a.slot a.image.now b (Order.Bits a.at a.n) d a.n refl refl refl long (omega arith) told
     c.put_two-len.ensures.0 refl c.put_two-len.ensures.1

@@ -12,33 +12,25 @@ use Rattle.sets.proofs.put_set.Goals as goal
 
 pub loop-i-init : goal.loop-i-init
 unfolding series
-loop-i-init c = (omega arith, refl, sym (over_none _))
+loop-i-init c = sym (over_none _)
 
 pub bounds-out-i : goal.bounds-out-i
-bounds-out-i c =
-    let l = c.loop-i in
-    let n = c.length_of-n.ensures in
-    omega (arith, l.invariant.0, l.invariant.1, n, length_short c.args.set, c.requires)
+bounds-out-i c = omega (arith, c.length_of-n.ensures, length_short c.args.set)
 
 pub loop-i-preserved : goal.loop-i-preserved
 loop-i-preserved c =
     let l = c.loop-i in
     let a = c.args in
-    let n = c.length_of-n.ensures in
-    let h : l.i < length a.out.now = omega (arith, n, length_short a.set, c.requires) in (
-      omega arith,
-      simp length-set l.invariant.1,
-      ap₂ (λ (t : List ℕ) (x : ℕ). set t l.i x) l.invariant.2 (c.byte_of.ensures ∙ ap (byte_of a.set) (add_comm l.i 1))
-          ∙ series_more (byte_of a.set) 1 l.i a.out.now h,
-    )
+    ap₂ (λ (t : List ℕ) (x : ℕ). set t l.i x) l.invariant (c.byte_of.ensures ∙ ap (byte_of a.set) (add_comm l.i 1))
+    ∙ series_more (byte_of a.set) 1 l.i a.out.now (omega (arith, c.length_of-n.ensures, length_short a.set))
 
 pub returns : goal.returns
 returns c =
     let l = c.loop-i in
     let a = c.args in
     let n = c.length_of-n.ensures in
-    let e : l.i ≡ length_of a.set = omega (arith, n) in (
+    let all : l.i ≡ length_of a.set = omega (arith, n) in (
       n ∙ sym (length_series (byte_of a.set) 1 (length_of a.set)),
-      l.invariant.2 ∙ ap (λ (k : ℕ). over (series (byte_of a.set) 1 k) a.out.now) e,
+      l.invariant ∙ ap (λ (k : ℕ). over (series (byte_of a.set) 1 k) a.out.now) all,
       omega (arith, n, length_short a.set),
     )

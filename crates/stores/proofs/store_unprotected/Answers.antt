@@ -3,20 +3,20 @@ use mathlib.Core.Bool.{Bool}
 use mathlib.Core.List.{List}
 use native.Mathlib.Omega.{arith}
 use native.Mathlib.Nat.{add-zero}
-use Prim.Native.Nat.{ℕ, ◌+◌, ◌-◌, ◌≤◌, ◌<◌}
+use Prim.Native.Nat.{ℕ, ◌+◌, ◌-◌}
 use lib.ListN.{length, take, drop}
-use lib.Seq.{sets, length-sets}
+use lib.Seq.{sets}
 use borrow.Author.Tests.{eq-eqb, ne_eqb}
 use Rattle.words.specs.Choice.{◌and◌, ◌is◌}
 use Rattle.words.specs.Bytes.{byte}
 use Rattle.words.proofs.Choices.{and_end, and_holds, and_fails, and_last}
 use Rattle.words.proofs.Lists.{tail_is}
 use Rattle.bits.specs.Bits.{first_protected}
-use Rattle.bits.specs.declared.Place.TheVariants.{At, Nowhere}
+use Rattle.std.specs.Prelude.{None}
 use Rattle.stores.specs.Stores.{storing, ends_equal}
-use Rattle.stores.proofs.StoreLaws.{found_place, run_long, turn_stored, turn_ends, rest_stored, rest_ends}
+use Rattle.stores.proofs.StoreLaws.{run_long, turn_stored, turn_ends, rest_stored, rest_ends}
 use Rattle.stores.proofs.store_unprotected.Goals as goal
-use Rattle.stores.proofs.store_unprotected.Goals.{After-store-in-loop-k, In-At, then-image-k, else-image-k}
+use Rattle.stores.proofs.store_unprotected.Goals.{then-image-k, else-image-k}
 
 pub loop-k-init : goal.loop-k-init
 unfolding ◌and◌
@@ -24,106 +24,61 @@ loop-k-init c =
     let a = c.args in
     let from : a.at ≡ a.at + 0 = sym (add-zero a.at) in (
       omega arith,
-      refl,
-      ap (λ (k : ℕ). storing a.bits a.covered a.image.now k a.«data».now) from,
-      ap (λ (k : ℕ). ends_equal (storing a.bits a.covered a.image.now a.at a.«data».now) k a.«data».now) from,
+      ap (λ (k : ℕ). storing a.protection.bits a.protection.covered a.image.now k a.«data».now) from,
+      ap (λ (k : ℕ). ends_equal (storing a.protection.bits a.protection.covered a.image.now a.at a.«data».now) k a.«data».now) from,
     )
 
-pub returns-in_default : goal.returns-in_default
-returns-in_default c =
-    let l = c.loop-k in
-    let a = c.args in
-    let none : first_protected a.bits a.covered l.image (a.at + l.i) (length a.«data».now - l.i) ≡ Nowhere =
-    sym c.first_protected-found.ensures ∙ c.in_default.is in
-    let whole = storing a.bits a.covered a.image.now a.at a.«data».now in
-    let left = rest_ends a.bits a.covered l.image a.at l.i a.«data».now (omega arith) (omega arith) none (omega arith) in
-    let stored : c.store.new.image ≡ whole =
-    c.store.ensures
-    ∙ ap (sets l.image (a.at + l.i)) (tail_is l.i a.«data».now)
-    ∙ sym (l.invariant.2 ∙ rest_stored a.bits a.covered l.image a.at l.i a.«data».now (omega arith) (omega arith) none) in record {
-      stored = stored;
-      report = sym (ap (λ (x : List ℕ). ends_equal x a.at a.«data».now) stored
-          ∙ l.invariant.3
-          ∙ ap (λ (b : Bool). l.equal and b) (ap (λ (x : List ℕ). ends_equal x (a.at + l.i) (drop l.i a.«data».now)) l.invariant.2 ∙ left)
-          ∙ and_end l.equal);
-    }
-
 -- ---- it found a protected byte
--- where
-place : (d : In-At) → let l = d.loop-k in let a = d.args in
-    first_protected a.bits a.covered l.image (a.at + l.i) (length a.«data».now - l.i) ≡ At d.in-At.k
-place d = sym d.first_protected-found.ensures ∙ d.in-At.is
-
--- it stands in what is left of the range
-between : (d : In-At) → let l = d.loop-k in let a = d.args in
-    (a.at + l.i ≤ d.in-At.k) × (d.in-At.k < a.at + length a.«data».now)
-between d =
-    let l = d.loop-k in
-    let a = d.args in
-    found_place a.bits a.covered l.image a.at l.i d.in-At.k a.«data».now (omega arith) (omega arith) (place d)
-
-pub overflow_sub-end : goal.overflow_sub-end
-overflow_sub-end c = omega (arith, between (goal.at.overflow_sub-end c).In-At)
-
-pub slice_bounds-store-count-in-loop-k : goal.slice_bounds-store-count-in-loop-k
-slice_bounds-store-count-in-loop-k c = omega (arith, between (goal.at.slice_bounds-store-count-in-loop-k c).In-At)
-
-pub slice_bounds-store-start-in-loop-k : goal.slice_bounds-store-start-in-loop-k
-slice_bounds-store-start-in-loop-k c = omega (arith, between (goal.at.slice_bounds-store-start-in-loop-k c).In-At)
-
-pub slice_bounds-store-end-in-loop-k : goal.slice_bounds-store-end-in-loop-k
-slice_bounds-store-end-in-loop-k c = omega (arith, between (goal.at.slice_bounds-store-end-in-loop-k c).In-At)
-
-pub store-requires-in-loop-k : goal.store-requires-in-loop-k
-store-requires-in-loop-k c =
+pub store-requires : goal.store-requires
+store-requires c =
     let l = c.loop-k in
     let a = c.args in
-    let long = run_long a.bits a.covered l.image a.at l.i c.in-At.k a.«data».now (omega arith) (omega arith) (place (goal.at.store-requires-in-loop-k c).In-At) in
-    omega (arith, long, between (goal.at.store-requires-in-loop-k c).In-At)
-
--- the run was stored, and the image is as long as before
-run_laid : (c : After-store-in-loop-k) → let l = c.loop-k in let a = c.args in
-    length c.store-in-loop-k.new.image ≡ length a.image.now
-run_laid c =
-    let l = c.loop-k in
-    ap length c.store-in-loop-k.ensures ∙ simp length-sets l.invariant.1
-
-pub bounds-image-k : goal.bounds-image-k
-bounds-image-k c = omega (arith, run_laid (goal.at.bounds-image-k c).After-store-in-loop-k, between (goal.at.bounds-image-k c).In-At)
-
-pub bounds-data-end : goal.bounds-data-end
-bounds-data-end c = omega (arith, between (goal.at.bounds-data-end c).In-At)
-
-pub overflow_add-i : goal.overflow_add-i
-overflow_add-i c = omega (arith, between (goal.at.overflow_add-i c).In-At)
-
-pub loop-k-smaller : goal.loop-k-smaller
-loop-k-smaller c = omega (arith, between (goal.at.loop-k-smaller c).In-At)
+    let long = run_long a.protection.bits a.protection.covered l.image a.at l.i c.in-Some.k a.«data».now (omega arith) (omega arith) (sym c.in-Some.ensures.first) in
+    omega (arith, long, c.in-Some.ensures.within)
 
 pub loop-k-preserved : goal.loop-k-preserved
 loop-k-preserved c =
     let l = c.loop-k in
     let a = c.args in
-    let k : ℕ = c.in-At.k in
+    let k : ℕ = c.in-Some.k in
     let end : ℕ = k - a.at in
     let vs : List ℕ = a.«data».now in
-    let whole : List ℕ = storing a.bits a.covered a.image.now a.at vs in
+    let whole : List ℕ = storing a.protection.bits a.protection.covered a.image.now a.at vs in
     let after : List ℕ = sets l.image (a.at + l.i) (take (end - l.i) (drop l.i vs)) in
-    let here = turn_ends a.bits a.covered l.image a.at l.i k vs (omega arith) (omega arith) (place (goal.at.loop-k-preserved c).In-At) (omega arith) in
+    let here = turn_ends a.protection.bits a.protection.covered l.image a.at l.i k vs (omega arith) (omega arith) (sym c.in-Some.ensures.first) (omega arith) in
     let left : Bool = ends_equal whole (a.at + (end + 1)) (drop (end + 1) vs) in
-    let seen : ends_equal whole (a.at + l.i) (drop l.i vs) ≡ (byte c.store-in-loop-k.new.image k is byte vs end and left) =
-    ap (λ (x : List ℕ). ends_equal x (a.at + l.i) (drop l.i vs)) l.invariant.2
+    let seen : ends_equal whole (a.at + l.i) (drop l.i vs) ≡ (byte c.store.new.image k is byte vs end and left) =
+    ap (λ (x : List ℕ). ends_equal x (a.at + l.i) (drop l.i vs)) l.invariant.1
     ∙ here
-    ∙ ap (λ (x : List ℕ). byte after k is byte vs end and ends_equal x (a.at + (end + 1)) (drop (end + 1) vs)) (sym l.invariant.2)
-    ∙ ap (λ (x : List ℕ). byte x k is byte vs end and left) (sym c.store-in-loop-k.ensures) in (
-      omega (arith, between (goal.at.loop-k-preserved c).In-At),
-      run_laid (goal.at.loop-k-preserved c).After-store-in-loop-k,
-      l.invariant.2
-          ∙ turn_stored a.bits a.covered l.image a.at l.i k vs (omega arith) (omega arith) (place (goal.at.loop-k-preserved c).In-At)
-          ∙ ap (λ (x : List ℕ). storing a.bits a.covered x (a.at + (end + 1)) (drop (end + 1) vs)) (sym c.store-in-loop-k.ensures),
-      l.invariant.3 ∙ ap (λ (b : Bool). l.equal and b) seen
+    ∙ ap (λ (x : List ℕ). byte after k is byte vs end and ends_equal x (a.at + (end + 1)) (drop (end + 1) vs)) (sym l.invariant.1)
+    ∙ ap (λ (x : List ℕ). byte x k is byte vs end and left) (sym c.store.ensures) in (
+      omega (arith, c.in-Some.ensures.within),
+      l.invariant.1
+          ∙ turn_stored a.protection.bits a.protection.covered l.image a.at l.i k vs (omega arith) (omega arith) (sym c.in-Some.ensures.first)
+          ∙ ap (λ (x : List ℕ). storing a.protection.bits a.protection.covered x (a.at + (end + 1)) (drop (end + 1) vs)) (sym c.store.ensures),
+      l.invariant.2 ∙ ap (λ (b : Bool). l.equal and b) seen
           ∙ (elim c.if-image-k.branch [
             | then-image-k w ↦ and_last l.equal (sym (and_fails left (ne_eqb _ _ w.if-image-k.true))) ∙ and_fails left w.equal-is
             | else-image-k w ↦ ap (λ (b : Bool). l.equal and b) (sym (and_holds (eq-eqb _ _ w.if-image-k.false) refl)) ∙ ap (λ (b : Bool). b and left) (sym w.equal-is)
           ]),
     )
+
+-- ---- it found none
+pub returns : goal.returns
+returns c =
+    let l = c.loop-k in
+    let a = c.args in
+    let none : first_protected a.protection.bits a.protection.covered l.image (a.at + l.i) (length a.«data».now - l.i) ≡ None =
+    sym c.in_default.ensures.first in
+    let whole = storing a.protection.bits a.protection.covered a.image.now a.at a.«data».now in
+    let left = rest_ends a.protection.bits a.protection.covered l.image a.at l.i a.«data».now (omega arith) (omega arith) none (omega arith) in
+    let stored : c.store-2.new.image ≡ whole =
+    c.store-2.ensures
+    ∙ ap (sets l.image (a.at + l.i)) (tail_is l.i a.«data».now)
+    ∙ sym (l.invariant.1 ∙ rest_stored a.protection.bits a.protection.covered l.image a.at l.i a.«data».now (omega arith) (omega arith) none) in record {
+      stored = stored;
+      report = sym (ap (λ (x : List ℕ). ends_equal x a.at a.«data».now) stored
+          ∙ l.invariant.2
+          ∙ ap (λ (b : Bool). l.equal and b) (ap (λ (x : List ℕ). ends_equal x (a.at + l.i) (drop l.i a.«data».now)) l.invariant.1 ∙ left)
+          ∙ and_end l.equal);
+    }

@@ -9,9 +9,9 @@ use Rattle.stores.proofs.store_unprotected.Given as goal
 
 abbrev pub invariant-loop-k : goal.invariant-loop-k
 invariant-loop-k l =
-    let whole = storing l.bits l.covered l.initial.image l.at l.data in
-    (l.i ≤ length l.data) × (length l.image ≡ length l.initial.image)
-    × (whole ≡ storing l.bits l.covered l.image (l.at + l.i) (drop l.i l.data))
+    let whole = storing l.protection.bits l.protection.covered l.fn.image l.at l.data in
+    (l.i ≤ length l.data)
+    × (whole ≡ storing l.protection.bits l.protection.covered l.image (l.at + l.i) (drop l.i l.data))
     × (ends_equal whole l.at l.data ≡ (l.equal and ends_equal whole (l.at + l.i) (drop l.i l.data)))
 
 abbrev pub decreases-loop-k : goal.decreases-loop-k
