@@ -26,11 +26,8 @@ fn put_hex(bytes: &[u8], out: &mut [u8]) -> usize
     ensures { Puts (hex bytes.now) result out.old out.new }
 {
     let mut at = 0;
-    let mut i = 0;
-    while i < bytes.len() {
-        let b = bytes[i];
+    for &b in bytes {
         at = put_two(out, at, digit(b / 16), digit(b % 16));
-        i += 1;
     }
     at
 }
