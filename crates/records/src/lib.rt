@@ -8,7 +8,7 @@ ghost use Rattle.records.specs.Records.{mark_of, most, record_at};
 use words::{LARGEST_HELD, wide};
 
 // What a record does.
-#[derive(Clone, Copy)]
+#[derive(Clone, Copy, PartialEq)]
 pub enum Mark {
     Insert,
     Remove,
