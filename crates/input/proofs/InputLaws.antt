@@ -16,7 +16,7 @@ use Rattle.words.specs.Bytes.{over}
 use Rattle.words.proofs.Lists.{front_laid, drop_take}
 use Rattle.records.specs.declared.Record.{Record}
 use Rattle.records.specs.declared.Stop.TheVariants.{Cut, Bad, End}
-use Rattle.records.specs.Records.{Reading, record_at}
+use Rattle.records.specs.Records.{Found, record_at}
 use Rattle.records.proofs.RecordLaws.{Fewer, record_short, whole_within}
 use Rattle.input.specs.Input.{part, wants, behind, Grows, Brings}
 use Rattle.input.specs.declared.Brought.{Brought}
@@ -71,18 +71,18 @@ behind_came {input} {at = at} {end} p w =
     ∙ drop-append_seam (part input at end) p.unused.came
 
 -- ---- a reading that wants more
-short_by : (l : List ℕ) (r : Reading) → Fewer l 0 r → wants r ≡ true → length l < longest_record
+short_by : (l : List ℕ) (r : Found) → Fewer l 0 r → wants r ≡ true → length l < longest_record
 short_by l (Ok r) s e = absurd (false≢true e)
 short_by l (Err Cut) s e = omega arith
 short_by l (Err Bad) s e = absurd (false≢true e)
 short_by l (Err End) s e = omega arith
 
 -- is not of bytes that settle it
-pub unsettled : (u v : List ℕ) {r : Reading} → r ≡ record_at u 0 → wants r ≡ true → u ≡ v → wants (record_at v 0) ≡ false → ⊥
+pub unsettled : (u v : List ℕ) {r : Found} → r ≡ record_at u 0 → wants r ≡ true → u ≡ v → wants (record_at v 0) ≡ false → ⊥
 unsettled u v e m p h = cc
 
 -- leaves room in a buffer that holds the longest record
-pub wants_room : (at end : ℕ) (l : List ℕ) {r : Reading} → end ≤ length l → r ≡ record_at (part l at end) 0 → wants r ≡ true → end - at < longest_record
+pub wants_room : (at end : ℕ) (l : List ℕ) {r : Found} → end ≤ length l → r ≡ record_at (part l at end) 0 → wants r ≡ true → end - at < longest_record
 wants_room at end l {r} w e h =
     let u : List ℕ = part l at end in
     omega (arith, short_by u r (subst (Fewer u 0) (sym e) (record_short u 0)) h, length_part at end l w)

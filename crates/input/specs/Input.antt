@@ -2,7 +2,7 @@
 -- leaves. Which bytes a read brings the reader alone can say, and the system's says nothing; these say where they stand.
 use Rattle.std.specs.Prelude.{ℕ, ◌-◌, ◌≤◌, ◌≡◌, Bool, true, false, List, ◌++◌, length, take, drop, Ok, Err}
 use Rattle.records.specs.declared.Stop.TheVariants.{Cut, Bad, End}
-use Rattle.records.specs.Records.{Reading, record_at}
+use Rattle.records.specs.Records.{Found, record_at}
 use Rattle.input.specs.declared.Brought.{Brought}
 
 -- the bytes of a buffer from a place to an end
@@ -10,7 +10,7 @@ abbrev pub part : List ℕ → ℕ → ℕ → List ℕ
 part l at end = take (end - at) (drop at l)
 
 -- more input can make another reading of it
-abbrev pub wants : Reading → Bool
+abbrev pub wants : Found → Bool
 wants (Ok r) = false
 wants (Err Cut) = true
 wants (Err Bad) = false

@@ -11,13 +11,13 @@ use Rattle.slot.specs.declared.Slot.{Slot}
 use Rattle.std.specs.Prelude.{Ok, Err}
 use Rattle.records.specs.declared.Record.{Record}
 use Rattle.records.specs.declared.Stop.TheVariants.{Cut, Bad, End}
-use Rattle.records.specs.Records.{Reading, record_at}
+use Rattle.records.specs.Records.{Found, record_at}
 use Rattle.records.proofs.RecordLaws.{Stays, whole_within, record_stays}
 use Rattle.printed.specs.Printed.{comes_of, line_of, whole, parting, Unread, next, printing, prints}
 
 -- where what is printed after the first record is the same, so is the whole: that record has at least four bytes
 next_alike : (f g : List ℕ → Slot → List ℕ → List ℕ) (left : List ℕ) (s : Slot) (image : List ℕ)
-    → ((l : List ℕ) (t : Slot) (i : List ℕ) → length l < length left → f l t i ≡ g l t i) → (r : Reading) → record_at left 0 ≡ r
+    → ((l : List ℕ) (t : Slot) (i : List ℕ) → length l < length left → f l t i ≡ g l t i) → (r : Found) → record_at left 0 ≡ r
     → next f r left s image ≡ next g r left s image
 next_alike f g left s image h (Ok r) e =
     let w = whole_within left 0 e in
@@ -44,8 +44,8 @@ prints_next (x ∷ left) s image =
     let n : ℕ = length left in
     next_alike (printing n) prints (x ∷ left) s image (λ l t i b. enough n (length l) l t i (omega arith) (omega arith)) (record_at (x ∷ left) 0) refl
 
-prints_by : (left : List ℕ) {r : Reading} (s : Slot) (image : List ℕ) → record_at left 0 ≡ r → prints left s image ≡ next prints r left s image
-prints_by left s image e = prints_next left s image ∙ ap (λ (r : Reading). next prints r left s image) e
+prints_by : (left : List ℕ) {r : Found} (s : Slot) (image : List ℕ) → record_at left 0 ≡ r → prints left s image ≡ next prints r left s image
+prints_by left s image e = prints_next left s image ∙ ap (λ (r : Found). next prints r left s image) e
 
 -- ---- the input as it comes: b has come, and more comes behind it
 -- a whole record: its line is the next of what is printed, whatever comes behind it
@@ -62,7 +62,7 @@ whole_prints b more s image {r} e =
     ∙ ap₂ (λ (x l : List ℕ). let o = comes_of r.mark x s image in line_of r.mark o ++ prints l o.slot o.image) body (drop-append-le r.end b more w.held)
 
 -- another reading: what is printed where the session stops, whatever stands unread behind a record that is bad
-pub stop_prints : (b unread : List ℕ) (s : Slot) (image : List ℕ) (r : Reading) → record_at b 0 ≡ r → whole r ≡ false → Unread r unread
+pub stop_prints : (b unread : List ℕ) (s : Slot) (image : List ℕ) (r : Found) → record_at b 0 ≡ r → whole r ≡ false → Unread r unread
     → prints (b ++ unread) s image ≡ parting r
 stop_prints b unread s image (Ok r) e h u = absurd (true≢false h)
 stop_prints b unread s image (Err Cut) e h u = ap (λ (l : List ℕ). prints (b ++ l) s image) u ∙ ap (λ (l : List ℕ). prints l s image) (append-nil b) ∙ prints_by b s image e

@@ -7,7 +7,7 @@ use Rattle.slot.specs.Slots.{removed}
 use Rattle.frame.specs.Exchange.{Outcome}
 use Rattle.records.specs.declared.Mark.{Mark}
 use Rattle.records.specs.declared.Stop.TheVariants.{Cut, Bad, End}
-use Rattle.records.specs.Records.{Reading, record_at}
+use Rattle.records.specs.Records.{Found, record_at}
 use Rattle.sitting.specs.Sittings.{outcome_of}
 use Rattle.lines.specs.Text.{text}
 use Rattle.lines.specs.Lines.{line}
@@ -21,22 +21,22 @@ abbrev pub line_of : Mark → Outcome → List ℕ
 line_of mark o = line mark o.number o.answer
 
 -- "A cut record, another mark, a body over 32,769 bytes or a non-empty remove body prints `bad` and stops. Clean end prints nothing."
-abbrev pub bad : Reading → Bool
+abbrev pub bad : Found → Bool
 bad (Ok r) = false
 bad (Err Cut) = true
 bad (Err Bad) = true
 bad (Err End) = false
 
 -- it stops at a reading that is not of a whole record
-abbrev pub whole : Reading → Bool
+abbrev pub whole : Found → Bool
 whole (Ok r) = true
 whole (Err stop) = false
 
-unfoldable pub parting : Reading → List ℕ
+unfoldable pub parting : Found → List ℕ
 parting r = bad r ⇒ text "bad\n" ⁏ []
 
 -- what may still stand behind the reading that stops it: whatever it is where the record is bad, which is not read, else nothing
-abbrev pub Unread : Reading → List ℕ → Type 0
+abbrev pub Unread : Found → List ℕ → Type 0
 Unread (Ok r) more = more ≡ []
 Unread (Err Cut) more = more ≡ []
 Unread (Err Bad) more = Unit {0}
@@ -44,7 +44,7 @@ Unread (Err End) more = more ≡ []
 
 -- What a session prints that holds a slot and an image, by the record that stands first in what is left of the input: the record's line, and
 -- then what is printed after it; or what is printed where the session stops.
-abbrev pub next : (List ℕ → Slot → List ℕ → List ℕ) → Reading → List ℕ → Slot → List ℕ → List ℕ
+abbrev pub next : (List ℕ → Slot → List ℕ → List ℕ) → Found → List ℕ → Slot → List ℕ → List ℕ
 next after (Ok r) left s image =
     let o = comes_of r.mark (take (r.end - r.start) (drop r.start left)) s image in
     line_of r.mark o ++ after (drop r.end left) o.slot o.image

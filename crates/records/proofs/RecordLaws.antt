@@ -13,7 +13,7 @@ use Rattle.std.specs.declared.option.Option.{Option}
 use Rattle.std.specs.Prelude.{None, Some, Ok, Err}
 use Rattle.records.specs.declared.Record.{Record}
 use Rattle.records.specs.declared.Stop.TheVariants.{Cut, Bad, End}
-use Rattle.records.specs.Records.{Reading, mark_of, most, length_at, word_at, body_at, record_at}
+use Rattle.records.specs.Records.{Found, mark_of, most, length_at, word_at, body_at, record_at}
 
 -- where the body of a record at a place lies: behind the header, within the slice, and no longer than its mark allows
 pub record Within (l : List ℕ) (at : ℕ) (r : Record) : Type 0 where
@@ -23,7 +23,7 @@ pub record Within (l : List ℕ) (at : ℕ) (r : Record) : Type 0 where
   pub short : r.end - r.start ≤ most r.mark
 
 -- a reading that is whole lies so; of the others there is nothing to say
-abbrev pub Lies : List ℕ → ℕ → Reading → Type 0
+abbrev pub Lies : List ℕ → ℕ → Found → Type 0
 Lies l at (Ok r) = Within l at r
 Lies l at (Err stop) = Unit {0}
 
@@ -50,7 +50,7 @@ whole_within l at e = subst (Lies l at) e (record_lies l at)
 
 -- ---- room for more
 -- a record that is cut has fewer bytes than the longest whole one, 4 and 32,769, and at the end there is none
-abbrev pub Fewer : List ℕ → ℕ → Reading → Type 0
+abbrev pub Fewer : List ℕ → ℕ → Found → Type 0
 Fewer l at (Ok r) = Unit {0}
 Fewer l at (Err Cut) = length l - at < longest_record
 Fewer l at (Err Bad) = Unit {0}
@@ -82,7 +82,7 @@ record_short l at =
 
 -- ---- more input
 -- a reading that is whole or bad does not depend on what comes behind
-abbrev pub Stays : List ℕ → ℕ → Reading → Type 0
+abbrev pub Stays : List ℕ → ℕ → Found → Type 0
 Stays l at (Ok r) = record_at l at ≡ Ok r
 Stays l at (Err Cut) = Unit {0}
 Stays l at (Err Bad) = record_at l at ≡ Err Bad

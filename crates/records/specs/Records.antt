@@ -35,18 +35,18 @@ abbrev pub length_at : List ℕ → ℕ → ℕ
 length_at l at = byte l (at + 2) + 256 * byte l (at + 3)
 
 -- what stands at a place: a whole record, or why there is none
-abbrev pub Reading : Type 0
-Reading = Result Record Stop
+abbrev pub Found : Type 0
+Found = Result Record Stop
 
 -- "A record is either whole or cut", where its header is there and is not bad
-unfoldable pub body_at : Option Mark → List ℕ → ℕ → Reading
+unfoldable pub body_at : Option Mark → List ℕ → ℕ → Found
 body_at (Some mark) l at =
     ltb (most mark) (length_at l at) ⇒ Err Bad
     ⁏ ltb (length l - (at + 4)) (length_at l at) ⇒ Err Cut
     ⁏ Ok (record { mark = mark; start = at + 4; end = at + 4 + length_at l at })
 body_at None l at = Err Bad
 
-unfoldable pub record_at : List ℕ → ℕ → Reading
+unfoldable pub record_at : List ℕ → ℕ → Found
 record_at l at =
     leb (length l) at ⇒ Err End
     ⁏ ltb (length l - at) 4 ⇒ Err Cut

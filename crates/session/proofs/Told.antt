@@ -13,7 +13,7 @@ use Rattle.slot.specs.declared.Slot.{Slot}
 use Rattle.slot.specs.Slots.{removed}
 use Rattle.records.specs.declared.Record.{Record}
 use Rattle.records.specs.declared.Stop.TheVariants.{Cut, Bad, End}
-use Rattle.records.specs.Records.{Reading, record_at}
+use Rattle.records.specs.Records.{Found, record_at}
 use Rattle.sitting.specs.declared.Held.{Held}
 use Rattle.lines.specs.Lines.{Puts}
 use Rattle.lines.proofs.LineLaws.{puts_front}
@@ -83,7 +83,7 @@ since_turn {told = told} {t = t} s p e q =
     }
 
 -- and the last: a reading that is not of a whole record
-pub not_whole : (r : Reading) → ((x : Record) → r ≡ Ok x → ⊥) → whole r ≡ false
+pub not_whole : (r : Found) → ((x : Record) → r ≡ Ok x → ⊥) → whole r ≡ false
 not_whole (Ok x) k = absurd (k x refl)
 not_whole (Err stop) k = refl
 
@@ -106,14 +106,14 @@ unfolding since_start
 between_start a b input h image = record { since = since_start input h image; taken = Consumes-nil a; given = Appends-nil b }
 
 -- what stands unread behind the reading that stops it: nothing, where the reader is at its end, or whatever is behind a bad record
-left_unread : (last : Reading) (ys : List ℕ) → whole last ≡ false → (wants last ≡ true → ys ≡ []) → Unread last ys
+left_unread : (last : Found) (ys : List ℕ) → whole last ≡ false → (wants last ≡ true → ys ≡ []) → Unread last ys
 left_unread (Ok r) ys o f = absurd (true≢false o)
 left_unread (Err Cut) ys o f = f refl
 left_unread (Err Bad) ys o f = tt
 left_unread (Err End) ys o f = f refl
 
 -- so all that the reader had is what came and what stands unread
-whole_input : (read read' written written' : Option (List ℕ)) (came handed : List ℕ) (last : Reading) → whole last ≡ false → Consumes read read' came
+whole_input : (read read' written written' : Option (List ℕ)) (came handed : List ℕ) (last : Found) → whole last ≡ false → Consumes read read' came
     → Appends written written' handed → ((unread : List ℕ) → Unread last unread → handed ≡ printed (came ++ unread)) → (wants last ≡ true → IsAtEnd read')
     → IfSome read (λ (xs : List ℕ). Appends written written' (printed xs))
 whole_input None read' written written' came handed last o t g p f = tt

@@ -5,7 +5,7 @@ use Rattle.std.specs.declared.option.Option.{Option}
 use Rattle.std.specs.Io.KnownBytes.{Consumes, Appends}
 use Rattle.slot.specs.Slots.{removed}
 use Rattle.records.specs.declared.Record.{Record}
-use Rattle.records.specs.Records.{Reading}
+use Rattle.records.specs.Records.{Found}
 use Rattle.sitting.specs.declared.Held.{Held}
 use Rattle.lines.specs.Lines.{Puts}
 use Rattle.input.specs.declared.Brought.{Brought}
@@ -33,7 +33,7 @@ pub record Ran (input image : List ℕ) : Type 0 where
   pub held : Held
   pub empty : held.slot ≡ removed
   pub none : held.size ≡ 0
-  pub last : Reading
+  pub last : Found
   pub came : List ℕ
   pub handed : List ℕ
   pub course : (unread : List ℕ) → Unread last unread → Course input 0 0 held image (came ++ unread) handed

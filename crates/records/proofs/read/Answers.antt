@@ -12,7 +12,7 @@ use Rattle.words.proofs.Choices.{taken, passed}
 use Rattle.records.specs.declared.Mark.{Mark}
 use Rattle.records.specs.declared.Stop.{Stop}
 use Rattle.records.specs.declared.Stop.TheVariants.{Bad}
-use Rattle.records.specs.Records.{Reading, mark_of, most, word_at, length_at, body_at, record_at}
+use Rattle.records.specs.Records.{Found, mark_of, most, word_at, length_at, body_at, record_at}
 use Rattle.records.proofs.read.Goals as goal
 use Rattle.records.proofs.read.Goals.{After-ok_or, After-wide-4}
 
@@ -26,7 +26,7 @@ returns-then-input-at-lt4 c = passed _ (lt-leb _ _ c.if-input-at.false) (taken _
 
 -- ---- what stands at the place, behind the first two tests
 -- by its mark
-marked_found : (p : After-ok_or) {r : Reading} {marked : Option Mark} → result_ok p.ok_or.result ≡ marked
+marked_found : (p : After-ok_or) {r : Found} {marked : Option Mark} → result_ok p.ok_or.result ≡ marked
     → let a = p.args in r ≡ body_at marked a.input.now a.at
     → r ≡ record_at a.input.now a.at
 unfolding record_at
@@ -39,7 +39,7 @@ marked_found p {marked = marked} k h =
     (passed _ (le-ltb _ 4 p.if-input-at-lt4.false) (h ∙ ap (λ (x : Option Mark). body_at x a.input.now a.at) marks))
 
 -- another mark is bad
-unmarked : (k : Option Mark) {x : Stop} (r : Reading) → Err x ≡ ok_or k Bad → IsErrAnd r (λ (e : Stop). e ≡ x) → r ≡ Err Bad
+unmarked : (k : Option Mark) {x : Stop} (r : Found) → Err x ≡ ok_or k Bad → IsErrAnd r (λ (e : Stop). e ≡ x) → r ≡ Err Bad
 unmarked None (Ok x) e h = absurd h
 unmarked None (Err y) e h = cc
 unmarked (Some mark) r e h = cc
