@@ -6,6 +6,7 @@ use Prim.Native.Nat.{ℕ, ◌+◌, ◌-◌, ◌≤◌, ◌<◌}
 use native.Mathlib.Omega.{arith}
 use lib.ListN.{length, take, drop, length-drop}
 use lib.Seq.{length-take-le, take-take, take-add, drop-drop, drop-append_seam}
+use Rattle.std.specs.Prelude.{Ok, Err}
 use Rattle.std.specs.declared.option.Option.{Option}
 use Rattle.std.specs.Io.KnownBytes.{Consumes}
 use Rattle.std.proofs.KnownBytes.{Consumes-nil, Consumes-trans}
@@ -13,10 +14,9 @@ use Rattle.std.proofs.lemmas.List.{drop_all, drop-append-le, length-append}
 use Rattle.words.specs.Bounds.{longest_record}
 use Rattle.words.specs.Bytes.{over}
 use Rattle.words.proofs.Lists.{front_laid, drop_take}
-use Rattle.records.specs.declared.Mark.{Mark}
 use Rattle.records.specs.declared.Record.{Record}
-use Rattle.records.specs.declared.Record.TheVariants.{Whole, Cut, Bad, End}
-use Rattle.records.specs.Records.{record_at}
+use Rattle.records.specs.declared.Stop.TheVariants.{Cut, Bad, End}
+use Rattle.records.specs.Records.{Found, record_at}
 use Rattle.records.proofs.RecordLaws.{Fewer, record_short, whole_within}
 use Rattle.input.specs.Input.{part, wants, behind, Grows, Brings}
 use Rattle.input.specs.declared.Brought.{Brought}
@@ -71,26 +71,26 @@ behind_came {input} {at = at} {end} p w =
     ∙ drop-append_seam (part input at end) p.unused.came
 
 -- ---- a reading that wants more
-short_by : (l : List ℕ) (r : Record) → Fewer l 0 r → wants r ≡ true → length l < longest_record
-short_by l (Whole mark start end) s e = absurd (false≢true e)
-short_by l Cut s e = omega arith
-short_by l Bad s e = absurd (false≢true e)
-short_by l End s e = omega arith
+short_by : (l : List ℕ) (r : Found) → Fewer l 0 r → wants r ≡ true → length l < longest_record
+short_by l (Ok r) s e = absurd (false≢true e)
+short_by l (Err Cut) s e = omega arith
+short_by l (Err Bad) s e = absurd (false≢true e)
+short_by l (Err End) s e = omega arith
 
 -- is not of bytes that settle it
-pub unsettled : (u v : List ℕ) {r : Record} → r ≡ record_at u 0 → wants r ≡ true → u ≡ v → wants (record_at v 0) ≡ false → ⊥
+pub unsettled : (u v : List ℕ) {r : Found} → r ≡ record_at u 0 → wants r ≡ true → u ≡ v → wants (record_at v 0) ≡ false → ⊥
 unsettled u v e m p h = cc
 
 -- leaves room in a buffer that holds the longest record
-pub wants_room : (at end : ℕ) (l : List ℕ) {r : Record} → end ≤ length l → r ≡ record_at (part l at end) 0 → wants r ≡ true → end - at < longest_record
+pub wants_room : (at end : ℕ) (l : List ℕ) {r : Found} → end ≤ length l → r ≡ record_at (part l at end) 0 → wants r ≡ true → end - at < longest_record
 wants_room at end l {r} w e h =
     let u : List ℕ = part l at end in
     omega (arith, short_by u r (subst (Fewer u 0) (sym e) (record_short u 0)) h, length_part at end l w)
 
 -- ---- a whole record that is brought
 -- lies among the unused bytes
-pub brought_whole : {input left : List ℕ} {at end : ℕ} {r : Brought} {mark : Mark} {start next : ℕ} → Brings input at end left r
-    → r.found ≡ Whole mark start next → (start ≤ next) × (r.at + next ≤ r.end) × (r.end ≤ length left)
+pub brought_whole : {input left : List ℕ} {at end : ℕ} {r : Brought} {w : Record} → Brings input at end left r
+    → r.found ≡ Ok w → (w.start ≤ w.end) × (r.at + w.end ≤ r.end) × (r.end ≤ length left)
 brought_whole {left = left} {r = r} b e =
     let w = whole_within (part left r.at r.end) 0 (sym b.reading ∙ e) in
     (w.ends, omega (arith, w.held, length_part r.at r.end left b.within, b.ordered), b.within)

@@ -1,9 +1,8 @@
 -- The input of the session program as it stands in the buffer: the bytes that came and are not used yet, and what bringing more of them
 -- leaves. Which bytes a read brings the reader alone can say, and the system's says nothing; these say where they stand.
-use Rattle.std.specs.Prelude.{ℕ, ◌-◌, ◌≤◌, ◌≡◌, Bool, true, false, List, ◌++◌, length, take, drop}
-use Rattle.records.specs.declared.Record.{Record}
-use Rattle.records.specs.declared.Record.TheVariants.{Whole, Cut, Bad, End}
-use Rattle.records.specs.Records.{record_at}
+use Rattle.std.specs.Prelude.{ℕ, ◌-◌, ◌≤◌, ◌≡◌, Bool, true, false, List, ◌++◌, length, take, drop, Ok, Err}
+use Rattle.records.specs.declared.Stop.TheVariants.{Cut, Bad, End}
+use Rattle.records.specs.Records.{Found, record_at}
 use Rattle.input.specs.declared.Brought.{Brought}
 
 -- the bytes of a buffer from a place to an end
@@ -11,11 +10,11 @@ abbrev pub part : List ℕ → ℕ → ℕ → List ℕ
 part l at end = take (end - at) (drop at l)
 
 -- more input can make another reading of it
-abbrev pub wants : Record → Bool
-wants (Whole mark start end) = false
-wants Cut = true
-wants Bad = false
-wants End = true
+abbrev pub wants : Found → Bool
+wants (Ok r) = false
+wants (Err Cut) = true
+wants (Err Bad) = false
+wants (Err End) = true
 
 -- the same bytes, and behind them what came
 pub record Grows (old new : List ℕ) : Type 0 where

@@ -9,13 +9,14 @@ ghost use Rattle.records.specs.Records.{record_at};
 ghost use Rattle.input.specs.Input.{part, wants, behind, Brings};
 ghost use Rattle.std.specs.Io.KnownBytes.{Consumes, IsAtEnd};
 
-use records::Record;
+use records::{Record, Stop};
 use std::io::Read;
 
 // The record that stands first among the unused bytes of the buffer, and where these lie.
+// Two places and no slice: the bytes stay in the lent buffer, fixed memory, which the next read is into; no Range, which is not Copy.
 #[derive(Clone, Copy)]
 pub struct Brought {
-    pub found: Record,
+    pub found: Result<Record, Stop>,
     pub at: usize,
     pub end: usize,
 }
@@ -35,11 +36,7 @@ fn slide(input: &mut [u8], at: usize, n: usize)
     if at == 0 {
         return;
     }
-    let mut i = 0;
-    while i < n {
-        input[i] = input[at + i];
-        i += 1;
-    }
+    input.copy_within(at..at + n, 0);
 }
 
 // One read behind the bytes that stand there, which stay: how many came, 0 at the end of the input, and where the read failed. There is room
@@ -60,19 +57,10 @@ fn read_more<R: Read>(source: &mut Source<R>, input: &mut [u8], end: usize) -> u
 }
 
 // Whether more input can make another reading of it.
-fn wants_more(found: Record) -> bool
+fn wants_more(found: Result<Record, Stop>) -> bool
     ensures { result ≡ wants found }
 {
-    match found {
-        Record::Whole {
-            mark: _,
-            start: _,
-            end: _,
-        } => false,
-        Record::Cut => true,
-        Record::Bad => false,
-        Record::End => true,
-    }
+    matches!(found, Err(Stop::Cut | Stop::End))
 }
 
 // Reads on until the record at the front of the unused bytes is there whole, or is bad, or the input ends: no further than that record needs.

@@ -15,9 +15,9 @@ fn digit(d: u8) -> u8
     ensures { result ≡ digit_of d }
 {
     if d < 10 {
-        return 48 + d;
+        return b'0' + d;
     }
-    87 + d
+    b'a' - 10 + d
 }
 
 // Bytes in hex, two digits each.
@@ -26,11 +26,8 @@ fn put_hex(bytes: &[u8], out: &mut [u8]) -> usize
     ensures { Puts (hex bytes.now) result out.old out.new }
 {
     let mut at = 0;
-    let mut i = 0;
-    while i < bytes.len() {
-        let b = bytes[i];
+    for &b in bytes {
         at = put_two(out, at, digit(b / 16), digit(b % 16));
-        i += 1;
     }
     at
 }
@@ -40,34 +37,24 @@ fn put_word(mark: Mark, out: &mut [u8]) -> usize
     requires { 4 ≤ length out.old }
     ensures { Puts (word mark) result out.old out.new × (result ≤ 4) }
 {
-    match mark {
-        Mark::Insert => {
-            lay(b"in ", out);
-            3
-        }
-        Mark::Remove => {
-            lay(b"out ", out);
-            4
-        }
-        Mark::Message => {
-            lay(b"msg ", out);
-            4
-        }
-    }
+    let word: &[u8] = match mark {
+        Mark::Insert => b"in ",
+        Mark::Remove => b"out ",
+        Mark::Message => b"msg ",
+    };
+    lay(word, out);
+    word.len()
 }
 
 // Whether a line shows its answer.
 fn shown(mark: Mark, number: u8) -> bool
     ensures { result ≡ shows mark number }
 {
-    match mark {
-        Mark::Insert => false,
-        Mark::Remove => false,
-        Mark::Message => number == 0,
-    }
+    mark == Mark::Message && number == 0
 }
 
 // What stands behind a line's number.
+// A flag and no Option of the answer: `ending` takes both, and an Option that is made of them to be taken apart here is no plainer.
 fn put_rest(show: bool, answer: &[u8], out: &mut [u8]) -> usize
     requires { 2 * length answer.now + 2 ≤ length out.old }
     ensures { Puts (ending show answer.now) result out.old out.new }
@@ -89,7 +76,7 @@ pub fn put_line(mark: Mark, number: u8, answer: &[u8], out: &mut [u8]) -> usize
     ensures { Puts (line mark number answer.now) result out.old out.new }
 {
     let n = put_word(mark, out);
-    out[n] = 48 + number;
+    out[n] = b'0' + number;
     let behind = n + 1;
     let show = shown(mark, number);
     let more = put_rest(show, answer, &mut out[behind..]);

@@ -9,10 +9,9 @@ use lib.IntN.{ℤ}
 use Rattle.std.specs.Prelude.{Option, Result}
 use Rattle.words.specs.Choice.{◌⇒◌⁏◌, ◌is◌}
 use Rattle.words.specs.Bounds.{least_room}
+use Rattle.std.specs.declared.option.Option.{Option}
 use Rattle.records.specs.declared.Mark.{Mark}
-use Rattle.records.specs.declared.Marked.{Marked}
-use Rattle.records.specs.declared.Record.{Record}
-use Rattle.records.specs.Records.{mark_of, most, record_at}
+use Rattle.records.specs.Records.{Found, mark_of, most, record_at}
 use Rattle.chips.specs.declared.Chip.{Chip}
 use Rattle.chips.specs.declared.Facts.{Facts}
 use Rattle.chips.specs.Kinds.{facts, chip_of}
@@ -233,13 +232,13 @@ module _ (raw : List ℕ) where
   card_reader_remove_only n n' left left' g g' = let p = returns_only g g' in (p.0, p.1)
 
 -- ---- records
-pub records_mark_of_only : (word : ℕ) (r r' : Marked) → r ≡ mark_of word → r' ≡ mark_of word → r ≡ r'
+pub records_mark_of_only : (word : ℕ) (r r' : Option Mark) → r ≡ mark_of word → r' ≡ mark_of word → r ≡ r'
 records_mark_of_only word r r' = value_only
 
 pub records_mark_most_only : (mark : Mark) (r r' : ℕ) → r ≡ most mark → r' ≡ most mark → r ≡ r'
 records_mark_most_only mark r r' = value_only
 
-pub records_read_only : (input : List ℕ) (at : ℕ) (r r' : Record) → r ≡ record_at input at → r' ≡ record_at input at → r ≡ r'
+pub records_read_only : (input : List ℕ) (at : ℕ) (r r' : Found) → r ≡ record_at input at → r' ≡ record_at input at → r ≡ r'
 records_read_only input at r r' = value_only
 
 -- ---- sitting
@@ -279,6 +278,6 @@ printed_turn_only mark body h had was blank r r' left left' holds holds' told to
       p.1,
     )
 
-pub printed_leave_only : (found : Record) (was : List ℕ) (r r' : ℕ) (holds holds' : List ℕ) → Puts (parting found) r was holds → Puts (parting found) r' was holds'
+pub printed_leave_only : (found : Found) (was : List ℕ) (r r' : ℕ) (holds holds' : List ℕ) → Puts (parting found) r was holds → Puts (parting found) r' was holds'
     → (r ≡ r') × (holds ≡ holds')
 printed_leave_only found was r r' holds holds' = puts_only

@@ -1,14 +1,13 @@
 -- "Session program": what it prints, from the whole input to the whole output. It computes.
-use Rattle.std.specs.Prelude.{ℕ, zero, suc, ◌-◌, ◌≡◌, Bool, true, false, List, [], ◌++◌, length, take, drop}
+use Rattle.std.specs.Prelude.{ℕ, zero, suc, ◌-◌, ◌≡◌, Bool, true, false, List, [], ◌++◌, length, take, drop, Ok, Err}
 use Rattle.words.specs.Bounds.{least_room}
 use Rattle.words.specs.Choice.{◌⇒◌⁏◌}
 use Rattle.slot.specs.declared.Slot.{Slot}
 use Rattle.slot.specs.Slots.{removed}
 use Rattle.frame.specs.Exchange.{Outcome}
 use Rattle.records.specs.declared.Mark.{Mark}
-use Rattle.records.specs.declared.Record.{Record}
-use Rattle.records.specs.declared.Record.TheVariants.{Whole, Cut, Bad, End}
-use Rattle.records.specs.Records.{record_at}
+use Rattle.records.specs.declared.Stop.TheVariants.{Cut, Bad, End}
+use Rattle.records.specs.Records.{Found, record_at}
 use Rattle.sitting.specs.Sittings.{outcome_of}
 use Rattle.lines.specs.Text.{text}
 use Rattle.lines.specs.Lines.{line}
@@ -22,38 +21,34 @@ abbrev pub line_of : Mark → Outcome → List ℕ
 line_of mark o = line mark o.number o.answer
 
 -- "A cut record, another mark, a body over 32,769 bytes or a non-empty remove body prints `bad` and stops. Clean end prints nothing."
-abbrev pub bad : Record → Bool
-bad (Whole mark start end) = false
-bad Cut = true
-bad Bad = true
-bad End = false
+abbrev pub bad : Found → Bool
+bad (Ok r) = false
+bad (Err Cut) = true
+bad (Err Bad) = true
+bad (Err End) = false
 
 -- it stops at a reading that is not of a whole record
-abbrev pub whole : Record → Bool
-whole (Whole mark start end) = true
-whole Cut = false
-whole Bad = false
-whole End = false
+abbrev pub whole : Found → Bool
+whole (Ok r) = true
+whole (Err stop) = false
 
-unfoldable pub parting : Record → List ℕ
+unfoldable pub parting : Found → List ℕ
 parting r = bad r ⇒ text "bad\n" ⁏ []
 
 -- what may still stand behind the reading that stops it: whatever it is where the record is bad, which is not read, else nothing
-abbrev pub Unread : Record → List ℕ → Type 0
-Unread (Whole mark start end) more = more ≡ []
-Unread Cut more = more ≡ []
-Unread Bad more = Unit {0}
-Unread End more = more ≡ []
+abbrev pub Unread : Found → List ℕ → Type 0
+Unread (Ok r) more = more ≡ []
+Unread (Err Cut) more = more ≡ []
+Unread (Err Bad) more = Unit {0}
+Unread (Err End) more = more ≡ []
 
 -- What a session prints that holds a slot and an image, by the record that stands first in what is left of the input: the record's line, and
 -- then what is printed after it; or what is printed where the session stops.
-abbrev pub next : (List ℕ → Slot → List ℕ → List ℕ) → Record → List ℕ → Slot → List ℕ → List ℕ
-next after (Whole mark start end) left s image =
-    let o = comes_of mark (take (end - start) (drop start left)) s image in
-    line_of mark o ++ after (drop end left) o.slot o.image
-next after Cut left s image = parting Cut
-next after Bad left s image = parting Bad
-next after End left s image = parting End
+abbrev pub next : (List ℕ → Slot → List ℕ → List ℕ) → Found → List ℕ → Slot → List ℕ → List ℕ
+next after (Ok r) left s image =
+    let o = comes_of r.mark (take (r.end - r.start) (drop r.start left)) s image in
+    line_of r.mark o ++ after (drop r.end left) o.slot o.image
+next after (Err stop) left s image = parting (Err stop)
 
 -- record by record, n of them at most
 unfoldable pub printing : ℕ → List ℕ → Slot → List ℕ → List ℕ

@@ -8,29 +8,24 @@ ghost use Rattle.records.specs.Records.{mark_of, most, record_at};
 use words::{LARGEST_HELD, wide};
 
 // What a record does.
-#[derive(Clone, Copy)]
+#[derive(Clone, Copy, PartialEq)]
 pub enum Mark {
     Insert,
     Remove,
     Message,
 }
 
-// The mark of two bytes.
+// A whole record: its body starts at start and ends before end, which is the place of the next one.
 #[derive(Clone, Copy)]
-pub enum Marked {
-    Is(Mark),
-    Other,
+pub struct Record {
+    pub mark: Mark,
+    pub start: usize,
+    pub end: usize,
 }
 
-// What stands at a place.
+// Why no whole record stands at a place.
 #[derive(Clone, Copy)]
-pub enum Record {
-    // A whole record: its body starts at start and ends before end, which is the place of the next one.
-    Whole {
-        mark: Mark,
-        start: usize,
-        end: usize,
-    },
+pub enum Stop {
     // A header or a body that runs past the end of the slice.
     Cut,
     // Another mark, or a body that is too long for its mark.
@@ -40,19 +35,16 @@ pub enum Record {
 }
 
 // The two bytes come as one number, the first one high, so that 43 49 is 0x4349.
-pub fn mark_of(word: usize) -> Marked
+// An Option and no TryFrom: what is no mark has no error of its own; `read` says by which `Stop` it stops.
+pub fn mark_of(word: usize) -> Option<Mark>
     ensures { result ≡ mark_of word }
 {
-    if word == 0x4349 {
-        return Marked::Is(Mark::Insert);
+    match word {
+        0x4349 => Some(Mark::Insert),
+        0x434F => Some(Mark::Remove),
+        0x4F4D => Some(Mark::Message),
+        _ => None,
     }
-    if word == 0x434F {
-        return Marked::Is(Mark::Remove);
-    }
-    if word == 0x4F4D {
-        return Marked::Is(Mark::Message);
-    }
-    Marked::Other
 }
 
 impl Mark {
@@ -69,30 +61,27 @@ impl Mark {
 }
 
 // The record at a place. A header that is there whole decides whether the record is bad; then the body is there whole or cut.
-pub fn read(input: &[u8], at: usize) -> Record
+pub fn read(input: &[u8], at: usize) -> Result<Record, Stop>
     ensures { result ≡ record_at input.now at }
 {
     if input.len() <= at {
-        return Record::End;
+        return Err(Stop::End);
     }
     if input.len() - at < 4 {
-        return Record::Cut;
+        return Err(Stop::Cut);
     }
-    let marked = mark_of(256 * wide(input[at]) + wide(input[at + 1]));
-    let Marked::Is(mark) = marked else {
-        return Record::Bad;
-    };
+    let mark = mark_of(256 * wide(input[at]) + wide(input[at + 1])).ok_or(Stop::Bad)?;
     let len = wide(input[at + 2]) + 256 * wide(input[at + 3]);
     if mark.most() < len {
-        return Record::Bad;
+        return Err(Stop::Bad);
     }
     let start = at + 4;
     if input.len() - start < len {
-        return Record::Cut;
+        return Err(Stop::Cut);
     }
-    Record::Whole {
+    Ok(Record {
         mark,
         start,
         end: start + len,
-    }
+    })
 }

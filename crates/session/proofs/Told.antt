@@ -6,15 +6,14 @@ use mathlib.Core.Bool.{true, false, true≢false}
 use mathlib.Core.List.{List, [], ◌++◌, append_assoc}
 use lib.ListN.{length, take, drop}
 use Rattle.std.specs.declared.option.Option.{Option}
-use Rattle.std.specs.Prelude.{None, Some, IfSome}
+use Rattle.std.specs.Prelude.{None, Some, Ok, Err, IfSome}
 use Rattle.std.specs.Io.KnownBytes.{Consumes, Appends, IsAtEnd}
 use Rattle.std.proofs.KnownBytes.{Consumes-nil, Consumes-trans, Appends-nil, Appends-trans}
 use Rattle.slot.specs.declared.Slot.{Slot}
 use Rattle.slot.specs.Slots.{removed}
-use Rattle.records.specs.declared.Mark.{Mark}
 use Rattle.records.specs.declared.Record.{Record}
-use Rattle.records.specs.declared.Record.TheVariants.{Whole, Cut, Bad, End}
-use Rattle.records.specs.Records.{record_at}
+use Rattle.records.specs.declared.Stop.TheVariants.{Cut, Bad, End}
+use Rattle.records.specs.Records.{Found, record_at}
 use Rattle.sitting.specs.declared.Held.{Held}
 use Rattle.lines.specs.Lines.{Puts}
 use Rattle.lines.proofs.LineLaws.{puts_front}
@@ -29,13 +28,13 @@ use Rattle.printed.proofs.TurnLaws.{turned_image, turned_line}
 use Rattle.session.specs.Courses.{Course, turns, stops, Ran, Passed, Since, Between}
 
 -- a whole record among the unused bytes u: its line, and what is printed of what is left
-step : (u came : List ℕ) (s : Slot) (image : List ℕ) {mark : Mark} {start next : ℕ} {body line rest left i : List ℕ} {t : Slot}
-    → record_at u 0 ≡ Whole mark start next → body ≡ take (next - start) (drop start u) → left ≡ drop next u
-    → line ≡ line_of mark (comes_of mark body s image) → t ≡ (comes_of mark body s image).slot → i ≡ (comes_of mark body s image).image
+step : (u came : List ℕ) (s : Slot) (image : List ℕ) {r : Record} {body line rest left i : List ℕ} {t : Slot}
+    → record_at u 0 ≡ Ok r → body ≡ take (r.end - r.start) (drop r.start u) → left ≡ drop r.end u
+    → line ≡ line_of r.mark (comes_of r.mark body s image) → t ≡ (comes_of r.mark body s image).slot → i ≡ (comes_of r.mark body s image).image
     → rest ≡ prints (left ++ came) t i → line ++ rest ≡ prints (u ++ came) s image
-step u came s image {mark} {start} {next} e b l p q r h =
+step u came s image {r} e b l p q i h =
     let w = whole_prints u came s image e in
-    let x = ap (λ (y : List ℕ). let o = comes_of mark y s image in line_of mark o ++ prints (drop next u ++ came) o.slot o.image) b in
+    let x = ap (λ (y : List ℕ). let o = comes_of r.mark y s image in line_of r.mark o ++ prints (drop r.end u ++ came) o.slot o.image) b in
     cc
 
 -- what comes in stands behind what was unused
@@ -45,11 +44,11 @@ grown {input} {at = at} {end} p came = ap (λ (l : List ℕ). l ++ came) p.unuse
 
 pub told : {input image came handed : List ℕ} {at end : ℕ} {h : Held} → Course input at end h image came handed
     → handed ≡ prints (part input at end ++ came) h.slot (take h.size image)
-told (turns {left = left} {image = image} {came = came} {start = start} {next = next} {h = h} {b = b} p e t c) =
+told (turns {left = left} {image = image} {came = came} {r = r} {h = h} {b = b} p e t c) =
     let w = brought_whole p e in
     let u : List ℕ = part left b.at b.end in
-    let body = part_inner left b.at b.end start next w.0 w.1 w.2 in
-    let rest = part_behind left b.at b.end start next w.0 w.1 w.2 in
+    let body = part_inner left b.at b.end r.start r.end w.0 w.1 w.2 in
+    let rest = part_behind left b.at b.end r.start r.end w.0 w.1 w.2 in
     step u came h.slot (take h.size image) (sym p.reading ∙ e) body rest (turned_line t) t.slot (turned_image t) (told c)
     ∙ ap (λ (l : List ℕ). prints l h.slot (take h.size image)) (grown p came)
 told (stops {left = left} {image = image} {h = h} {b = b} unread p o u q) =
@@ -71,10 +70,10 @@ pub since_start : (input : List ℕ) (h : Held) (image : List ℕ) → Since inp
 since_start input h image = record { came = []; handed = []; goes = λ c d k. k }
 
 -- one turn more
-pub since_turn : {input image input' left image' kept was holds blank told : List ℕ} {at end start next : ℕ} {mark : Mark} {h h' : Held}
-    {b : Brought} {t : Turned} → Since input h image input' at end h' image' → Brings input' at end left b → b.found ≡ Whole mark start next
-    → Turns mark (comes_of mark (part left (b.at + start) (b.at + next)) h'.slot (take h'.size image')) t image' kept was holds blank told
-    → Since input h image left (b.at + next) b.end t.held kept
+pub since_turn : {input image input' left image' kept was holds blank told : List ℕ} {at end : ℕ} {r : Record} {h h' : Held}
+    {b : Brought} {t : Turned} → Since input h image input' at end h' image' → Brings input' at end left b → b.found ≡ Ok r
+    → Turns r.mark (comes_of r.mark (part left (b.at + r.start) (b.at + r.end)) h'.slot (take h'.size image')) t image' kept was holds blank told
+    → Since input h image left (b.at + r.end) b.end t.held kept
 since_turn {told = told} {t = t} s p e q =
     let line : List ℕ = take t.len told in
     record {
@@ -84,11 +83,9 @@ since_turn {told = told} {t = t} s p e q =
     }
 
 -- and the last: a reading that is not of a whole record
-pub not_whole : (r : Record) → ((mark : Mark) (start end : ℕ) → r ≡ Whole mark start end → ⊥) → whole r ≡ false
-not_whole (Whole mark start end) k = absurd (k mark start end refl)
-not_whole Cut k = refl
-not_whole Bad k = refl
-not_whole End k = refl
+pub not_whole : (r : Found) → ((x : Record) → r ≡ Ok x → ⊥) → whole r ≡ false
+not_whole (Ok x) k = absurd (k x refl)
+not_whole (Err stop) k = refl
 
 pub since_end : {input image input' left image' blank told : List ℕ} {at end n : ℕ} {h h' : Held} {b : Brought} → h.slot ≡ removed → h.size ≡ 0
     → Since input h image input' at end h' image' → Brings input' at end left b → whole b.found ≡ false → Puts (parting b.found) n blank told
@@ -109,14 +106,14 @@ unfolding since_start
 between_start a b input h image = record { since = since_start input h image; taken = Consumes-nil a; given = Appends-nil b }
 
 -- what stands unread behind the reading that stops it: nothing, where the reader is at its end, or whatever is behind a bad record
-left_unread : (last : Record) (ys : List ℕ) → whole last ≡ false → (wants last ≡ true → ys ≡ []) → Unread last ys
-left_unread (Whole mark start end) ys o f = absurd (true≢false o)
-left_unread Cut ys o f = f refl
-left_unread Bad ys o f = tt
-left_unread End ys o f = f refl
+left_unread : (last : Found) (ys : List ℕ) → whole last ≡ false → (wants last ≡ true → ys ≡ []) → Unread last ys
+left_unread (Ok r) ys o f = absurd (true≢false o)
+left_unread (Err Cut) ys o f = f refl
+left_unread (Err Bad) ys o f = tt
+left_unread (Err End) ys o f = f refl
 
 -- so all that the reader had is what came and what stands unread
-whole_input : (read read' written written' : Option (List ℕ)) (came handed : List ℕ) (last : Record) → whole last ≡ false → Consumes read read' came
+whole_input : (read read' written written' : Option (List ℕ)) (came handed : List ℕ) (last : Found) → whole last ≡ false → Consumes read read' came
     → Appends written written' handed → ((unread : List ℕ) → Unread last unread → handed ≡ printed (came ++ unread)) → (wants last ≡ true → IsAtEnd read')
     → IfSome read (λ (xs : List ℕ). Appends written written' (printed xs))
 whole_input None read' written written' came handed last o t g p f = tt
@@ -132,9 +129,9 @@ module _ (read read' read'' written written' written'' : Option (List ℕ)) {inp
   taken_more : Consumes read read'' (s.since.came ++ p.unused.came)
   taken_more = Consumes-trans read read' read'' s.since.came p.unused.came s.taken (subst (Consumes read' read'') (behind_came p w) x)
 
-  pub between_turn : {kept was holds blank told : List ℕ} {start next : ℕ} {mark : Mark} {t : Turned} → b.found ≡ Whole mark start next
-      → Turns mark (comes_of mark (part left (b.at + start) (b.at + next)) h'.slot (take h'.size image')) t image' kept was holds blank told
-      → Appends written' written'' (take t.len told) → Between read read'' written written'' input h image left (b.at + next) b.end t.held kept
+  pub between_turn : {kept was holds blank told : List ℕ} {r : Record} {t : Turned} → b.found ≡ Ok r
+      → Turns r.mark (comes_of r.mark (part left (b.at + r.start) (b.at + r.end)) h'.slot (take h'.size image')) t image' kept was holds blank told
+      → Appends written' written'' (take t.len told) → Between read read'' written written'' input h image left (b.at + r.end) b.end t.held kept
   unfolding since_turn
   between_turn {told = told} {t = t} e q y = record {
     since = since_turn s.since p e q;

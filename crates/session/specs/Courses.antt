@@ -1,12 +1,11 @@
 -- The course that the loop of `session` takes, by the contracts of `bring`, `turn` and `leave` alone: the bytes that come in and the bytes
 -- that are handed over, until it stops.
-use Rattle.std.specs.Prelude.{ℕ, ◌+◌, ◌≡◌, false, List, ◌++◌, take}
+use Rattle.std.specs.Prelude.{ℕ, ◌+◌, ◌≡◌, false, List, ◌++◌, take, Ok}
 use Rattle.std.specs.declared.option.Option.{Option}
 use Rattle.std.specs.Io.KnownBytes.{Consumes, Appends}
 use Rattle.slot.specs.Slots.{removed}
-use Rattle.records.specs.declared.Mark.{Mark}
 use Rattle.records.specs.declared.Record.{Record}
-use Rattle.records.specs.declared.Record.TheVariants.{Whole}
+use Rattle.records.specs.Records.{Found}
 use Rattle.sitting.specs.declared.Held.{Held}
 use Rattle.lines.specs.Lines.{Puts}
 use Rattle.input.specs.declared.Brought.{Brought}
@@ -18,10 +17,10 @@ use Rattle.printed.specs.Turns.{Turns}
 -- The buffer with the place and the end of its unused bytes, what is held and the lent image; then what comes in and what is handed over.
 pub data Course : List ℕ → ℕ → ℕ → Held → List ℕ → List ℕ → List ℕ → Type 0 where
   -- a whole record is brought: it is done, its line is handed over, and the loop goes on with what is left and what is held then
-  turns : {input left image kept was holds blank told came handed : List ℕ} {at end start next : ℕ} {mark : Mark} {h : Held} {b : Brought} {t : Turned}
-      → (p : Brings input at end left b) → b.found ≡ Whole mark start next
-      → Turns mark (comes_of mark (part left (b.at + start) (b.at + next)) h.slot (take h.size image)) t image kept was holds blank told
-      → Course left (b.at + next) b.end t.held kept came handed
+  turns : {input left image kept was holds blank told came handed : List ℕ} {at end : ℕ} {r : Record} {h : Held} {b : Brought} {t : Turned}
+      → (p : Brings input at end left b) → b.found ≡ Ok r
+      → Turns r.mark (comes_of r.mark (part left (b.at + r.start) (b.at + r.end)) h.slot (take h.size image)) t image kept was holds blank told
+      → Course left (b.at + r.end) b.end t.held kept came handed
       → Course input at end h image (p.unused.came ++ came) (take t.len told ++ handed)
   -- another reading: what is printed then is handed over, and what stands unread is nothing, or whatever is behind a bad record
   stops : {input left image blank told : List ℕ} {at end n : ℕ} {h : Held} {b : Brought} (unread : List ℕ) → (p : Brings input at end left b)
@@ -34,7 +33,7 @@ pub record Ran (input image : List ℕ) : Type 0 where
   pub held : Held
   pub empty : held.slot ≡ removed
   pub none : held.size ≡ 0
-  pub last : Record
+  pub last : Found
   pub came : List ℕ
   pub handed : List ℕ
   pub course : (unread : List ℕ) → Unread last unread → Course input 0 0 held image (came ++ unread) handed

@@ -11,7 +11,6 @@ ghost use Rattle.printed.specs.Printed.{printed};
 ghost use Rattle.session.specs.Courses.{Ran, Passed};
 
 use input::{Source, bring};
-use records::Record;
 use std::io::{Read, Write};
 use words::{LARGEST_HELD, LINE, RECORD, ROOM};
 
@@ -19,13 +18,12 @@ use words::{LARGEST_HELD, LINE, RECORD, ROOM};
 // more than a hundred years.
 const RECORDS: u64 = 4000000000000000000;
 
-// Hands the front of a buffer over, at once. Where it is not all taken, this is told, and the session is over; where that is not taken either,
+// Hands bytes over, at once. Where it is not all taken, this is told, and the session is over; where that is not taken either,
 // nobody is left to be told.
-fn hand<W: Write, E: Write>(output: &mut W, errors: &mut E, out: &[u8], n: usize) -> bool
-    requires { n ≤ length out.now }
-    ensures { result ≡ true → Appends (W.contents output.old) (W.contents output.new) (take n out.now) }
+fn hand<W: Write, E: Write>(output: &mut W, errors: &mut E, out: &[u8]) -> bool
+    ensures { result ≡ true → Appends (W.contents output.old) (W.contents output.new) out.now }
 {
-    if output.write_all(&out[..n]).is_ok() && output.flush().is_ok() {
+    if output.write_all(out).is_ok() && output.flush().is_ok() {
         return true;
     }
     let _ = errors.write_all(b"session: the output could not be written\n");
@@ -57,21 +55,14 @@ fn session<R: Read, W: Write, E: Write>(
         let brought = bring(source, input, at, end);
         at = brought.at;
         end = brought.end;
-        let found = brought.found;
-        let Record::Whole {
-            mark,
-            start,
-            end: next,
-        } = found
-        else {
-            let n = printed::leave(found, out);
-            return hand(output, errors, out, n);
+        let Ok(record) = brought.found else {
+            let n = printed::leave(brought.found, out);
+            return hand(output, errors, &out[..n]);
         };
-        let first = at + start;
-        let last = at + next;
-        let turned = printed::turn(mark, &input[first..last], held, image, answer, out);
-        let n = turned.len;
-        if !hand(output, errors, out, n) {
+        let first = at + record.start;
+        let last = at + record.end;
+        let turned = printed::turn(record.mark, &input[first..last], held, image, answer, out);
+        if !hand(output, errors, &out[..turned.len]) {
             return false;
         }
         held = turned.held;

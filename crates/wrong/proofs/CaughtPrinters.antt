@@ -5,9 +5,8 @@ use mathlib.Core.Path.{◌≡◌, refl, ap, ◌∙◌}
 use mathlib.Core.List.{List, [], ◌++◌}
 use native.Mathlib.Omega.{arith}
 use lib.ListN.{length, take, drop}
-use Rattle.records.specs.declared.Record.{Record}
-use Rattle.records.specs.declared.Record.TheVariants.{Whole, Cut, Bad, End}
-use Rattle.records.specs.Records.{mark_of, body_at, record_at}
+use Rattle.std.specs.Prelude.{Ok, Err}
+use Rattle.records.specs.Records.{Found, mark_of, body_at, record_at}
 use Rattle.lines.specs.Lines.{digit_of, hex, line}
 use Rattle.slot.specs.declared.Slot.{Slot}
 use Rattle.slot.specs.Slots.{removed}
@@ -16,22 +15,20 @@ use Rattle.sitting.specs.Sittings.{holding, taken_for, outcome_of}
 use Rattle.printed.specs.Printed.{comes_of, line_of, parting, next, printing, printed}
 use Rattle.printed.specs.Rows.{terms}
 use Rattle.printed.proofs.Printing.{enough}
-use Rattle.wrong.specs.WrongPrinters.{Printing, going, by, printer, right_parts, printer_uncaught, wrong_printers, print_faults, more_print_faults}
+use Rattle.wrong.specs.WrongPrinters.{Printing, going, by, printer, right_parts, printer_uncaught, wrong_printers, print_faults, more_print_faults, inserts_nothing}
 
 pub printers_caught : printer_uncaught 1 wrong_printers ≡ 0
-unfolding rules mark_of body_at record_at holding taken_for outcome_of digit_of hex line parting printing printed terms print_faults more_print_faults wrong_printers
+unfolding rules mark_of body_at record_at holding taken_for outcome_of digit_of hex line parting printing printed terms print_faults more_print_faults wrong_printers inserts_nothing
 printers_caught = refl
 
 -- ---- the right one
-same_next : (f g : Printing) (r : Record) (left : List ℕ) (s : Slot) (image : List ℕ) → ((l : List ℕ) (t : Slot) (i : List ℕ) → f l t i ≡ g l t i)
+same_next : (f g : Printing) (r : Found) (left : List ℕ) (s : Slot) (image : List ℕ) → ((l : List ℕ) (t : Slot) (i : List ℕ) → f l t i ≡ g l t i)
     → going right_parts f r left s image ≡ next g r left s image
 unfolding going
-same_next f g (Whole mark start end) left s image h =
-    let o = comes_of mark (take (end - start) (drop start left)) s image in
-    ap (λ (t : List ℕ). line_of mark o ++ t) (h (drop end left) o.slot o.image)
-same_next f g Cut left s image h = refl
-same_next f g Bad left s image h = refl
-same_next f g End left s image h = refl
+same_next f g (Ok r) left s image h =
+    let o = comes_of r.mark (take (r.end - r.start) (drop r.start left)) s image in
+    ap (λ (t : List ℕ). line_of r.mark o ++ t) (h (drop r.end left) o.slot o.image)
+same_next f g (Err stop) left s image h = refl
 
 by_right : (n : ℕ) (left : List ℕ) (s : Slot) (image : List ℕ) → by right_parts n left s image ≡ printing n left s image
 unfolding by printing

@@ -1,12 +1,11 @@
 -- Wrong session programs, each as short as its fault, with an input on which it prints something else than the rules.
-use Rattle.std.specs.Prelude.{ℕ, zero, suc, ◌+◌, ◌-◌, ◌*◌, ◌/◌, ◌%◌, Bool, true, false, not, List, [], ◌∷◌, ◌++◌, map, length, take, drop, set, replicate, ltb, leb}
+use Rattle.std.specs.Prelude.{ℕ, zero, suc, ◌+◌, ◌-◌, ◌*◌, ◌/◌, ◌%◌, Bool, true, false, not, List, [], ◌∷◌, ◌++◌, map, length, take, drop, set, replicate, ltb, leb, Ok, Err}
 use Rattle.words.specs.Choice.{◌⇒◌⁏◌, ◌and◌, ◌or◌, ◌is◌}
 use Rattle.words.specs.Bytes.{byte, same}
 use Rattle.records.specs.declared.Mark.{Mark}
 use Rattle.records.specs.declared.Mark.TheVariants.{Insert, Remove, Message}
-use Rattle.records.specs.declared.Record.{Record}
-use Rattle.records.specs.declared.Record.TheVariants.{Whole, Cut, Bad, End}
-use Rattle.records.specs.Records.{word_at, length_at, record_at}
+use Rattle.records.specs.declared.Stop.TheVariants.{Cut, Bad, End}
+use Rattle.records.specs.Records.{Found, word_at, length_at, record_at}
 use Rattle.chips.specs.declared.Chip.{Chip}
 use Rattle.chips.specs.declared.Chip.TheVariants.{I2c1, I2c512, I2c1024}
 use Rattle.lines.specs.Text.{text}
@@ -26,18 +25,16 @@ Printing = List ℕ → Slot → List ℕ → List ℕ
 
 -- ---- a session program by its parts: the record that it reads first, what comes of a whole one, its line, and what it prints where it stops
 pub record PrinterParts : Type 0 where
-  pub reads : List ℕ → Record
+  pub reads : List ℕ → Found
   pub does : Mark → List ℕ → Slot → List ℕ → Outcome
   pub says : Mark → Outcome → List ℕ
-  pub leaves : Record → List ℕ
+  pub leaves : Found → List ℕ
 
-unfoldable pub going : PrinterParts → Printing → Record → Printing
-going p after (Whole mark start end) left s image =
-    let o = p.does mark (take (end - start) (drop start left)) s image in
-    p.says mark o ++ after (drop end left) o.slot o.image
-going p after Cut left s image = p.leaves Cut
-going p after Bad left s image = p.leaves Bad
-going p after End left s image = p.leaves End
+unfoldable pub going : PrinterParts → Printing → Found → Printing
+going p after (Ok r) left s image =
+    let o = p.does r.mark (take (r.end - r.start) (drop r.start left)) s image in
+    p.says r.mark o ++ after (drop r.end left) o.slot o.image
+going p after (Err stop) left s image = p.leaves (Err stop)
 
 unfoldable pub by : PrinterParts → ℕ → Printing
 by p zero left s image = []
@@ -47,14 +44,14 @@ by p (suc n) left s image = going p (by p n) (p.reads left) left s image
 unfoldable pub printer : PrinterParts → Printer
 printer p input = by p (length input + 1) input removed []
 
-abbrev pub first_record : List ℕ → Record
+abbrev pub first_record : List ℕ → Found
 first_record left = record_at left 0
 
 -- the right one, and those with one part of their own
 abbrev pub right_parts : PrinterParts
 right_parts = record { reads = first_record; does = comes_of; says = line_of; leaves = parting }
 
-abbrev pub reading_by : (List ℕ → Record) → Printer
+abbrev pub reading_by : (List ℕ → Found) → Printer
 reading_by f = printer (record { reads = f; does = comes_of; says = line_of; leaves = parting })
 
 abbrev pub done_by : (Mark → List ℕ → Slot → List ℕ → Outcome) → Printer
@@ -63,7 +60,7 @@ done_by f = printer (record { reads = first_record; does = f; says = line_of; le
 abbrev pub saying_by : (Mark → Outcome → List ℕ) → Printer
 saying_by f = printer (record { reads = first_record; does = comes_of; says = f; leaves = parting })
 
-abbrev pub leaving_by : (Record → List ℕ) → Printer
+abbrev pub leaving_by : (Found → List ℕ) → Printer
 leaving_by f = printer (record { reads = first_record; does = comes_of; says = line_of; leaves = f })
 
 -- ---- the faults
@@ -97,65 +94,66 @@ one_word Remove o = line_of Insert o
 one_word Message o = line_of Message o
 
 -- `bad` at a clean end; nothing at a cut record; nothing at a bad one
-unfoldable pub bad_at_end : Record → List ℕ
+unfoldable pub bad_at_end : Found → List ℕ
 bad_at_end r = text "bad\n"
 
-unfoldable pub nothing_at_cut : Record → List ℕ
-nothing_at_cut (Whole mark start end) = []
-nothing_at_cut Cut = []
-nothing_at_cut Bad = text "bad\n"
-nothing_at_cut End = []
+unfoldable pub nothing_at_cut : Found → List ℕ
+nothing_at_cut (Ok r) = []
+nothing_at_cut (Err Cut) = []
+nothing_at_cut (Err Bad) = text "bad\n"
+nothing_at_cut (Err End) = []
 
-unfoldable pub nothing_at_bad : Record → List ℕ
-nothing_at_bad (Whole mark start end) = []
-nothing_at_bad Cut = text "bad\n"
-nothing_at_bad Bad = []
-nothing_at_bad End = []
+unfoldable pub nothing_at_bad : Found → List ℕ
+nothing_at_bad (Ok r) = []
+nothing_at_bad (Err Cut) = text "bad\n"
+nothing_at_bad (Err Bad) = []
+nothing_at_bad (Err End) = []
 
 -- the length's high byte first
-unfoldable pub high_first : List ℕ → Record
+unfoldable pub high_first : List ℕ → Found
 high_first left = first_record (set (set left 2 (byte left 3)) 3 (byte left 2))
 
 -- an insert with an empty body is bad
-unfoldable pub no_empty : Record → Record
-no_empty (Whole Insert start end) = start is end ⇒ Bad ⁏ Whole Insert start end
-no_empty (Whole Remove start end) = Whole Remove start end
-no_empty (Whole Message start end) = Whole Message start end
-no_empty Cut = Cut
-no_empty Bad = Bad
-no_empty End = End
+unfoldable pub inserts_nothing : Mark → ℕ → ℕ → Bool
+inserts_nothing Insert start end = start is end
+inserts_nothing Remove start end = false
+inserts_nothing Message start end = false
 
-unfoldable pub empty_insert_bad : List ℕ → Record
+unfoldable pub no_empty : Found → Found
+no_empty (Ok r) = inserts_nothing r.mark r.start r.end ⇒ Err Bad ⁏ Ok r
+no_empty (Err stop) = Err stop
+
+unfoldable pub empty_insert_bad : List ℕ → Found
 empty_insert_bad left = no_empty (first_record left)
 
 -- a body is taken that is bad for its mark, where it is there: a removal's, and a message's of more than 32,769 bytes
-unfoldable pub taking_body : ℕ → Mark → List ℕ → Record
-taking_body w mark left = word_at left 0 is w and leb (4 + length_at left 0) (length left) ⇒ Whole mark 4 (4 + length_at left 0) ⁏ first_record left
+unfoldable pub taking_body : ℕ → Mark → List ℕ → Found
+taking_body w mark left = word_at left 0 is w and leb (4 + length_at left 0) (length left) ⇒ Ok (record { mark = mark; start = 4; end = 4 + length_at left 0 }) ⁏ first_record left
 
 -- a body of 32,769 bytes is too long
-unfoldable pub bound_less : List ℕ → Record
-bound_less left = length_at left 0 is 32769 ⇒ Bad ⁏ first_record left
+unfoldable pub bound_less : List ℕ → Found
+bound_less left = length_at left 0 is 32769 ⇒ Err Bad ⁏ first_record left
 
 -- a cut header is the end of the input
-unfoldable pub cut_header_ends : List ℕ → Record
-cut_header_ends left = ltb (length left) 4 ⇒ End ⁏ first_record left
+unfoldable pub cut_header_ends : List ℕ → Found
+cut_header_ends left = ltb (length left) 4 ⇒ Err End ⁏ first_record left
 
 -- what is there of a cut body is taken for a message
-unfoldable pub cut_is_whole : Record → List ℕ → Record
-cut_is_whole (Whole mark start end) left = Whole mark start end
-cut_is_whole Cut left = ltb (length left) 4 ⇒ Cut ⁏ Whole Message 4 (length left)
-cut_is_whole Bad left = Bad
-cut_is_whole End left = End
+unfoldable pub cut_is_whole : Found → List ℕ → Found
+cut_is_whole (Ok r) left = Ok r
+cut_is_whole (Err Cut) left = ltb (length left) 4 ⇒ Err Cut ⁏ Ok (record { mark = Message; start = 4; end = length left })
+cut_is_whole (Err Bad) left = Err Bad
+cut_is_whole (Err End) left = Err End
 
-unfoldable pub takes_cut_body : List ℕ → Record
+unfoldable pub takes_cut_body : List ℕ → Found
 takes_cut_body left = cut_is_whole (first_record left) left
 
 -- a record that ends with the input is cut
-unfoldable pub end_is_cut : List ℕ → Record
+unfoldable pub end_is_cut : List ℕ → Found
 end_is_cut left = first_record (take (length left - 1) left)
 
 -- a body has a byte more than its length says
-unfoldable pub body_one_more : List ℕ → Record
+unfoldable pub body_one_more : List ℕ → Found
 body_one_more left = first_record (set left 2 (byte left 2 + 1))
 
 -- a message is taken for an insert
@@ -209,15 +207,15 @@ large_first Remove body s image = comes_of Remove body s image
 large_first Message body s image = comes_of Message body s image
 
 -- an insert of kind 10 or 11 is bad
-unfoldable pub large_bad : List ℕ → Record
-large_bad left = word_at left 0 is 0x4349 and (byte left 4 is 10 or byte left 4 is 11) ⇒ Bad ⁏ first_record left
+unfoldable pub large_bad : List ℕ → Found
+large_bad left = word_at left 0 is 0x4349 and (byte left 4 is 10 or byte left 4 is 11) ⇒ Err Bad ⁏ first_record left
 
 -- goes on behind a bad record
-unfoldable pub past_bad : Printing → Record → Printing
-past_bad after (Whole mark start end) left s image = next after (Whole mark start end) left s image
-past_bad after Cut left s image = parting Cut
-past_bad after Bad left s image = parting Bad ++ after (drop (4 + length_at left 0) left) s image
-past_bad after End left s image = parting End
+unfoldable pub past_bad : Printing → Found → Printing
+past_bad after (Ok r) left s image = next after (Ok r) left s image
+past_bad after (Err Cut) left s image = parting (Err Cut)
+past_bad after (Err Bad) left s image = parting (Err Bad) ++ after (drop (4 + length_at left 0) left) s image
+past_bad after (Err End) left s image = parting (Err End)
 
 unfoldable pub goes_on : ℕ → Printing
 goes_on zero left s image = []

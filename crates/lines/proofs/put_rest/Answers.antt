@@ -2,23 +2,9 @@
 use mathlib.Core.Path.{ap}
 use mathlib.Core.Bool.{Bool}
 use native.Mathlib.Omega.{arith}
-use lib.ListN.{length-set}
-use Rattle.words.proofs.Lists.{length_tail}
 use Rattle.lines.specs.Lines.{ending}
 use Rattle.lines.proofs.LineLaws.{puts_length, puts_is, puts_first, hex_puts, rest_shown, rest_whole}
 use Rattle.lines.proofs.put_rest.Goals as goal
-
-pub slice_bounds-put_hex-count : goal.slice_bounds-put_hex-count
-slice_bounds-put_hex-count c = simp length-set (omega arith)
-
-pub slice_bounds-put_hex-start : goal.slice_bounds-put_hex-start
-slice_bounds-put_hex-start c = simp length-set (omega arith)
-
-pub put_hex-n-requires : goal.put_hex-n-requires
-put_hex-n-requires c = rw (length_tail, length-set) (omega arith)
-
-pub overflow_add-last : goal.overflow_add-last
-overflow_add-last c = omega (arith, hex_puts c.args.answer.now c.put_hex-n.ensures)
 
 pub bounds-out-last : goal.bounds-out-last
 bounds-out-last c =
@@ -26,18 +12,12 @@ bounds-out-last c =
     let h = c.put_hex-n.ensures in
     omega (arith, hex_puts a.answer.now h, puts_length (rest_shown a.answer.now a.out.now (omega arith) h))
 
-pub overflow_add-result : goal.overflow_add-result
-overflow_add-result c = omega (arith, hex_puts c.args.answer.now c.put_hex-n.ensures)
-
 pub returns-then-show : goal.returns-then-show
 returns-then-show c =
     let a = c.args in
     let h = c.put_hex-n in
     puts_is (ap (λ (b : Bool). ending b a.answer.now) c.if-show.true)
     (rest_whole a.answer.now h.result (omega arith) (rest_shown a.answer.now a.out.now (omega arith) h.ensures))
-
-pub shape_of-out-then-show : goal.shape_of-out-then-show
-shape_of-out-then-show c = puts_length (returns-then-show c)
 
 pub returns : goal.returns
 returns c =

@@ -1,23 +1,23 @@
--- `mark_of` meets its contract: its tests are the table's lines, in their order.
-use mathlib.Core.Path.{refl}
-use borrow.Author.Tests.{eq-eqb, ne_eqb}
-use Rattle.words.proofs.Choices.{taken, passed}
+-- `mark_of` meets its contract: each arm is its line of the table.
+use Rattle.std.proofs.Common.{refl, sym, ap, arith}
+use borrow.Author.Tests.{ne_eqb}
+use Rattle.words.specs.Choice.{◌⇒◌⁏◌}
+use Rattle.words.proofs.Choices.{passed}
 use Rattle.records.specs.Records.{mark_of}
 use Rattle.records.proofs.mark_of.Goals as goal
 
-pub returns-then-word-eq17225 : goal.returns-then-word-eq17225
-unfolding mark_of
-returns-then-word-eq17225 c = taken _ (eq-eqb _ 0x4349 c.if-word-eq17225.true)
+pub returns-in-17225 : goal.returns-in-17225
+unfolding mark_of ◌⇒◌⁏◌
+returns-in-17225 c = sym (ap mark_of c.in-17225.is)
 
-pub returns-then-word-eq17231 : goal.returns-then-word-eq17231
-unfolding mark_of
-returns-then-word-eq17231 c = passed _ (ne_eqb _ 0x4349 c.if-word-eq17225.false) (taken _ (eq-eqb _ 0x434F c.if-word-eq17231.true))
+pub returns-in-17231 : goal.returns-in-17231
+unfolding mark_of ◌⇒◌⁏◌
+returns-in-17231 c = sym (ap mark_of c.in-17231.is)
 
-pub returns-then-word-eq20301 : goal.returns-then-word-eq20301
-unfolding mark_of
-returns-then-word-eq20301 c = passed _ (ne_eqb _ 0x4349 c.if-word-eq17225.false) (passed _ (ne_eqb _ 0x434F c.if-word-eq17231.false)
-    (taken _ (eq-eqb _ 0x4F4D c.if-word-eq20301.true)))
+pub returns-in-20301 : goal.returns-in-20301
+unfolding mark_of ◌⇒◌⁏◌
+returns-in-20301 c = sym (ap mark_of c.in-20301.is)
 
-pub returns : goal.returns
+pub returns-in_default : goal.returns-in_default
 unfolding mark_of
-returns c = passed _ (ne_eqb _ 0x4349 c.if-word-eq17225.false) (passed _ (ne_eqb _ 0x434F c.if-word-eq17231.false) (passed _ (ne_eqb _ 0x4F4D c.if-word-eq20301.false) refl))
+returns-in_default c = passed _ (ne_eqb _ 0x4349 (omega arith)) (passed _ (ne_eqb _ 0x434F (omega arith)) (passed _ (ne_eqb _ 0x4F4D (omega arith)) refl))

@@ -12,15 +12,15 @@ loop-init g c = record {
   between = between_start _ _ _ _ _;
 }
 
-pub hand-requires : goal.hand-requires
-hand-requires g c = puts_fit c.leave-n.ensures
+pub shared_ref_as_front-hand : goal.shared_ref_as_front-hand
+shared_ref_as_front-hand g c = omega (arith, puts_fit c.leave-n.ensures)
 
 pub returns-in_default : goal.returns-in_default
 returns-in_default g c =
     let l = c.loop.invariant in
     let b = c.bring-brought in
     let s = c.start-held.ensures in
-    let o = not_whole b.result.found c.in_default.not-Whole in
+    let o = not_whole b.result.found c.in_default.not-Ok in
     let passed = λ (y : c.hand.result ≡ true).
     passed_end _ _ _ _ _ _ l.between l.within b.ensures.brings b.ensures.taken s.0 s.1 o c.leave-n.ensures (c.hand.ensures y) in
     record {
@@ -32,31 +32,31 @@ returns-in_default g c =
     }
 
 pub overflow_add-first : goal.overflow_add-first
-overflow_add-first g c = omega (arith, brought_whole c.bring-brought.ensures.brings c.in-Whole.is)
+overflow_add-first g c = omega (arith, brought_whole c.bring-brought.ensures.brings c.in-Ok.is)
 
 pub overflow_add-last : goal.overflow_add-last
-overflow_add-last g c = omega (arith, brought_whole c.bring-brought.ensures.brings c.in-Whole.is)
+overflow_add-last g c = omega (arith, brought_whole c.bring-brought.ensures.brings c.in-Ok.is)
 
 pub slice_bounds-turn-count : goal.slice_bounds-turn-count
-slice_bounds-turn-count g c = omega (arith, brought_whole c.bring-brought.ensures.brings c.in-Whole.is)
+slice_bounds-turn-count g c = omega (arith, brought_whole c.bring-brought.ensures.brings c.in-Ok.is)
 
 pub slice_bounds-turn-start : goal.slice_bounds-turn-start
-slice_bounds-turn-start g c = omega (arith, brought_whole c.bring-brought.ensures.brings c.in-Whole.is)
+slice_bounds-turn-start g c = omega (arith, brought_whole c.bring-brought.ensures.brings c.in-Ok.is)
 
 pub slice_bounds-turn-end : goal.slice_bounds-turn-end
-slice_bounds-turn-end g c = omega (arith, brought_whole c.bring-brought.ensures.brings c.in-Whole.is)
+slice_bounds-turn-end g c = omega (arith, brought_whole c.bring-brought.ensures.brings c.in-Ok.is)
 
-pub hand-requires-in-loop : goal.hand-requires-in-loop
-hand-requires-in-loop g c = puts_fit c.turn-turned.ensures.line
+pub shared_ref_as_front-hand-in-loop : goal.shared_ref_as_front-hand-in-loop
+shared_ref_as_front-hand-in-loop g c = omega (arith, puts_fit c.turn-turned.ensures.line)
 
 pub loop-preserved : goal.loop-preserved
 loop-preserved g c =
     let l = c.loop.invariant in
     let b = c.bring-brought in
-    let w = brought_whole b.ensures.brings c.in-Whole.is in
+    let w = brought_whole b.ensures.brings c.in-Ok.is in
     record {
       ordered = w.1;
       within = w.2;
       same_length = b.auto.input ∙ l.same_length;
-      between = between_turn _ _ _ _ _ _ l.between l.within b.ensures.brings b.ensures.taken c.in-Whole.is c.turn-turned.ensures (c.hand-in-loop.ensures c.if-not-hand.false);
+      between = between_turn _ _ _ _ _ _ l.between l.within b.ensures.brings b.ensures.taken c.in-Ok.is c.turn-turned.ensures (c.hand-in-loop.ensures c.if-not-hand.false);
     }
