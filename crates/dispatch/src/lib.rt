@@ -6,7 +6,8 @@ ghost use Rattle.std.specs.Prelude.{◌≡◌, true, List, ℕ, ◌≤◌, ◌<�
 ghost use Rattle.words.specs.Bounds.{least_room};
 ghost use Rattle.counts.specs.Counts.{protected_of};
 ghost use Rattle.sound.specs.Sound.{image_is_card};
-ghost use Rattle.faults.specs.Faults.{Transfer, Unsupported, type_byte, request_of};
+ghost use Rattle.faults.specs.declared.Request.TheVariants.{Transfer, Unsupported};
+ghost use Rattle.faults.specs.Faults.{type_byte, request_of};
 ghost use Rattle.frame.specs.Exchange.{reply, Gives};
 
 use faults::{Fault, fault_of, is_clear};

@@ -4,7 +4,9 @@
 
 ghost use Rattle.std.specs.Prelude.{◌≡◌, true, List, ℕ, ◌≤◌, length};
 ghost use Rattle.words.specs.Bounds.{least_room};
-ghost use Rattle.faults.specs.Faults.{Request, SetParameters, GetParameters, ResetParameters, b_slot, is_clear, fault_of};
+ghost use Rattle.faults.specs.declared.Request.{Request};
+ghost use Rattle.faults.specs.declared.Request.TheVariants.{SetParameters, GetParameters, ResetParameters};
+ghost use Rattle.faults.specs.Faults.{b_slot, is_clear, fault_of};
 ghost use Rattle.frame.specs.Answers.{answer_type};
 ghost use Rattle.frame.specs.Exchange.{told, deed, reply, Gives};
 

@@ -7,7 +7,7 @@ ghost use Rattle.words.specs.Bytes.{over};
 ghost use Rattle.words.specs.Bounds.{least_room};
 ghost use Rattle.chips.specs.Kinds.{facts};
 ghost use Rattle.sound.specs.Sound.{image_is_card};
-ghost use Rattle.faults.specs.Faults.{PowerOn, PowerOff, SlotStatus};
+ghost use Rattle.faults.specs.declared.Request.TheVariants.{PowerOn, PowerOff, SlotStatus};
 ghost use Rattle.frame.specs.Exchange.{reset, reply, Gives};
 
 use chips::Chip;

@@ -22,7 +22,9 @@ use Rattle.steps.specs.Steps.{order, body}
 use Rattle.orders.specs.Orders.{performed, commanded}
 use Rattle.orders.proofs.SlotKept.{slot_by_set}
 use Rattle.faults.specs.declared.Fault.{Fault}
-use Rattle.faults.specs.Faults.{Request, SetParameters, PowerOn, PowerOff, SlotStatus, GetParameters, ResetParameters, Transfer, Unsupported, apdu, ready, bad_field}
+use Rattle.faults.specs.declared.Request.{Request}
+use Rattle.faults.specs.declared.Request.TheVariants.{SetParameters, PowerOn, PowerOff, SlotStatus, GetParameters, ResetParameters, Transfer, Unsupported}
+use Rattle.faults.specs.Faults.{apdu, ready, bad_field}
 use Rattle.frame.specs.Answers.{answer, byte9, b_status}
 use Rattle.frame.specs.Exchange.{Outcome, deed, answered, exchange, insertion}
 use Rattle.reader.specs.Runs.{Sent, Run, sending, run}

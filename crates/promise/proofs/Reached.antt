@@ -18,7 +18,9 @@ use Rattle.steps.specs.Steps.{order, body, presents}
 use Rattle.steps.proofs.PresentAgain.{presents_is}
 use Rattle.steps.proofs.Decisions.{order_fits}
 use Rattle.faults.specs.declared.Fault.{Fault}
-use Rattle.faults.specs.Faults.{Request, SetParameters, PowerOn, PowerOff, SlotStatus, GetParameters, ResetParameters, Transfer, Unsupported, apdu}
+use Rattle.faults.specs.declared.Request.{Request}
+use Rattle.faults.specs.declared.Request.TheVariants.{SetParameters, PowerOn, PowerOff, SlotStatus, GetParameters, ResetParameters, Transfer, Unsupported}
+use Rattle.faults.specs.Faults.{apdu}
 use Rattle.orders.specs.Orders.{performed, commanded}
 use Rattle.orders.proofs.ImageKept.{counter_kept}
 use Rattle.frame.specs.Exchange.{Outcome, deed, answered}

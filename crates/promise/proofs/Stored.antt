@@ -30,7 +30,8 @@ use Rattle.steps.proofs.Decisions.{order_fits}
 use Rattle.orders.specs.Orders.{done, unequal, reported, written_word, said_by, image_by, slot_by, performed}
 use Rattle.orders.proofs.ImageKept.{written_stores}
 use Rattle.faults.specs.declared.Fault.{Fault}
-use Rattle.faults.specs.Faults.{Transfer, apdu}
+use Rattle.faults.specs.declared.Request.TheVariants.{Transfer}
+use Rattle.faults.specs.Faults.{apdu}
 use Rattle.frame.specs.Answers.{answer}
 use Rattle.frame.specs.Exchange.{Outcome, answered}
 use Rattle.reader.specs.Runs.{Sent, sending}

@@ -13,7 +13,8 @@ use Rattle.slot.specs.declared.Slot.{Slot}
 use Rattle.steps.specs.declared.Order.{Order}
 use Rattle.steps.specs.Steps.{order, body}
 use Rattle.faults.specs.declared.Fault.{Fault}
-use Rattle.faults.specs.Faults.{Transfer, apdu}
+use Rattle.faults.specs.declared.Request.TheVariants.{Transfer}
+use Rattle.faults.specs.Faults.{apdu}
 use Rattle.orders.specs.Orders.{performed, said_by, image_by, slot_by}
 use Rattle.frame.specs.Answers.{answer}
 use Rattle.frame.specs.Exchange.{Outcome, answered}

@@ -14,7 +14,7 @@ use Rattle.slot.specs.Slots.{removed}
 use Rattle.pages.specs.Cuts.{Paged}
 use Rattle.orders.specs.Orders.{done}
 use Rattle.faults.specs.declared.Fault.{Fault}
-use Rattle.faults.specs.Faults.{Transfer}
+use Rattle.faults.specs.declared.Request.TheVariants.{Transfer}
 use Rattle.frame.specs.Answers.{answer}
 use Rattle.reader.specs.Runs.{Sent, Run, sending}
 use Rattle.reader.specs.Rules.{rules}

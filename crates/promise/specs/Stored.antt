@@ -11,7 +11,8 @@ use Rattle.steps.specs.declared.Order.{Order}
 use Rattle.steps.specs.Steps.{order, body}
 use Rattle.orders.specs.Orders.{done, unequal}
 use Rattle.faults.specs.declared.Fault.{Fault}
-use Rattle.faults.specs.Faults.{Transfer, apdu}
+use Rattle.faults.specs.declared.Request.TheVariants.{Transfer}
+use Rattle.faults.specs.Faults.{apdu}
 use Rattle.frame.specs.Answers.{answer}
 use Rattle.reader.specs.Runs.{Sent}
 use Rattle.reader.specs.Heard.{requested, heard}

@@ -26,7 +26,9 @@ use Rattle.steps.proofs.Decisions.{order_fits}
 use Rattle.orders.specs.Orders.{performed, commanded, image_by, slot_by}
 use Rattle.orders.proofs.ImageKept.{card_kept}
 use Rattle.orders.proofs.SlotKept.{slot_by_holds, order_sound}
-use Rattle.faults.specs.Faults.{Request, SetParameters, PowerOn, PowerOff, SlotStatus, GetParameters, ResetParameters, Transfer, Unsupported, apdu, bad_field, ready, fault_of, is_clear}
+use Rattle.faults.specs.declared.Request.{Request}
+use Rattle.faults.specs.declared.Request.TheVariants.{SetParameters, PowerOn, PowerOff, SlotStatus, GetParameters, ResetParameters, Transfer, Unsupported}
+use Rattle.faults.specs.Faults.{apdu, bad_field, ready, fault_of, is_clear}
 use Rattle.frame.specs.Exchange.{Outcome, deed, served, exchange, insertion}
 use Rattle.reader.specs.Runs.{Sent}
 use Rattle.reader.specs.Proper.{Proper}

@@ -23,7 +23,9 @@ use Rattle.steps.proofs.Decisions.{order_fits, order_short}
 use Rattle.orders.specs.Orders.{Deed, commanded, performed}
 use Rattle.orders.proofs.Lengths.{said_short}
 use Rattle.faults.specs.declared.Fault.{Fault}
-use Rattle.faults.specs.Faults.{Request, SetParameters, PowerOn, PowerOff, SlotStatus, GetParameters, ResetParameters, Transfer, Unsupported, apdu, type_byte, request_of, fault_of}
+use Rattle.faults.specs.declared.Request.{Request}
+use Rattle.faults.specs.declared.Request.TheVariants.{SetParameters, PowerOn, PowerOff, SlotStatus, GetParameters, ResetParameters, Transfer, Unsupported}
+use Rattle.faults.specs.Faults.{apdu, type_byte, request_of, fault_of}
 use Rattle.frame.specs.Answers.{header, answer}
 use Rattle.frame.specs.Exchange.{Outcome, reset, deed, replied, reply, served, exchange}
 

@@ -7,7 +7,8 @@ use Rattle.slot.specs.declared.Slot.{Slot}
 use Rattle.sound.specs.Sound.{image_is_card, sound}
 use Rattle.steps.specs.Steps.{order, presents}
 use Rattle.faults.specs.declared.Fault.{Fault}
-use Rattle.faults.specs.Faults.{Request, SetParameters, PowerOn, PowerOff, SlotStatus, GetParameters, ResetParameters, Transfer, Unsupported}
+use Rattle.faults.specs.declared.Request.{Request}
+use Rattle.faults.specs.declared.Request.TheVariants.{SetParameters, PowerOn, PowerOff, SlotStatus, GetParameters, ResetParameters, Transfer, Unsupported}
 use Rattle.faults.specs.Faults.{type_byte, apdu, request_of, fault_of, is_clear}
 use Rattle.reader.specs.Runs.{Sent}
 

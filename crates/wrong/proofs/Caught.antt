@@ -18,7 +18,9 @@ use Rattle.chips.specs.Kinds.{facts}
 use Rattle.slot.specs.declared.Slot.{Slot}
 use Rattle.record.specs.Raw.{kind_of}
 use Rattle.faults.specs.declared.Fault.{Fault}
-use Rattle.faults.specs.Faults.{Request, Transfer, apdu}
+use Rattle.faults.specs.declared.Request.{Request}
+use Rattle.faults.specs.declared.Request.TheVariants.{Transfer}
+use Rattle.faults.specs.Faults.{apdu}
 use Rattle.orders.specs.Orders.{Deed, commanded}
 use Rattle.frame.specs.declared.Reply.{Reply}
 use Rattle.frame.specs.Answers.{header, answer}

@@ -28,7 +28,9 @@ use Rattle.steps.proofs.Decisions.{Decided, refused, through, decided, placed}
 use Rattle.stores.specs.Stores.{storing}
 use Rattle.sound.specs.Sound.{image_is_card, sound}
 use Rattle.faults.specs.declared.Fault.{Fault}
-use Rattle.faults.specs.Faults.{Request, SetParameters, Transfer, type_byte, dw_length, b_slot, apdu, request_of, data_fits, bad_field, ready, fault_of}
+use Rattle.faults.specs.declared.Request.{Request}
+use Rattle.faults.specs.declared.Request.TheVariants.{SetParameters, Transfer}
+use Rattle.faults.specs.Faults.{type_byte, dw_length, b_slot, apdu, request_of, data_fits, bad_field, ready, fault_of}
 use Rattle.orders.specs.Orders.{Deed, done, unequal, reported, written, written_word, said_by, image_by, slot_by, performed, commanded}
 use Rattle.frame.specs.declared.Refusal.{Refusal}
 use Rattle.frame.specs.Exchange.{served, Outcome, turned_down, answered, replied, reply, exchange, inserted_as, insertion}

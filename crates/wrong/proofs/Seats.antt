@@ -13,7 +13,8 @@ use Rattle.chips.specs.declared.Chip.{Chip}
 use Rattle.chips.specs.Kinds.{facts}
 use Rattle.sound.specs.Sound.{page_size}
 use Rattle.faults.specs.declared.Fault.{Fault}
-use Rattle.faults.specs.Faults.{Transfer, type_byte, apdu, request_of, fault_of, is_clear}
+use Rattle.faults.specs.declared.Request.TheVariants.{Transfer}
+use Rattle.faults.specs.Faults.{type_byte, apdu, request_of, fault_of, is_clear}
 use Rattle.orders.specs.Orders.{commanded}
 use Rattle.frame.specs.Exchange.{answered, exchange}
 use Rattle.reader.specs.Heard.{transfers}

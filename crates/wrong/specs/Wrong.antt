@@ -19,7 +19,9 @@ use Rattle.steps.specs.declared.Order.{Order}
 use Rattle.steps.specs.Steps.{Ins, word_of, ins_of, p1p2, p3, body, meant, top, place_of, ordered, steps, order}
 use Rattle.sound.specs.Sound.{sound}
 use Rattle.faults.specs.declared.Fault.{Fault}
-use Rattle.faults.specs.Faults.{Request, Transfer, type_byte, apdu, request_of, ready, fault_of}
+use Rattle.faults.specs.declared.Request.{Request}
+use Rattle.faults.specs.declared.Request.TheVariants.{Transfer}
+use Rattle.faults.specs.Faults.{type_byte, apdu, request_of, ready, fault_of}
 use Rattle.orders.specs.Orders.{Deed, performed, commanded}
 use Rattle.frame.specs.declared.Refusal.{Refusal}
 use Rattle.frame.specs.Exchange.{Outcome, turned_down, answered, replied, reply, exchange, insertion}

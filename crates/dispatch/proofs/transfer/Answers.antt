@@ -14,7 +14,8 @@ use Rattle.counts.specs.Counts.{protected_of}
 use Rattle.counts.proofs.CardLaws.{protected_card}
 use Rattle.sound.specs.Sound.{image_is_card}
 use Rattle.orders.specs.Orders.{commanded, Does}
-use Rattle.faults.specs.Faults.{Transfer, apdu, request_of}
+use Rattle.faults.specs.declared.Request.TheVariants.{Transfer}
+use Rattle.faults.specs.Faults.{apdu, request_of}
 use Rattle.frame.specs.Exchange.{deed}
 use Rattle.frame.proofs.AnswerLaws.{gives_failed, gives_done, gives_quiet, sealed_slot, sealed_clear, names_0}
 use borrow.Author.Rules.{rules}

@@ -2,7 +2,8 @@
 use mathlib.Core.Path.{refl}
 use native.Mathlib.Omega.{arith}
 use Rattle.words.proofs.Choices.{taken}
-use Rattle.faults.specs.Faults.{Unsupported, fault_of}
+use Rattle.faults.specs.declared.Request.TheVariants.{Unsupported}
+use Rattle.faults.specs.Faults.{fault_of}
 use Rattle.faults.specs.declared.Fault.{Fault}
 use Rattle.frame.proofs.AnswerLaws.{gives_failed}
 use Rattle.dispatch.proofs.unsupported.Goals as goal

@@ -1,7 +1,8 @@
 -- `get_parameters` meets its contract: the parameters that stand are told.
 use mathlib.Core.Path.{refl}
 use Rattle.words.specs.Choice.{◌⇒◌⁏◌}
-use Rattle.faults.specs.Faults.{GetParameters, request_of}
+use Rattle.faults.specs.declared.Request.TheVariants.{GetParameters}
+use Rattle.faults.specs.Faults.{request_of}
 use Rattle.frame.specs.Exchange.{deed}
 use Rattle.frame.proofs.AnswerLaws.{names_0}
 use borrow.Author.Rules.{rules}

@@ -2,7 +2,8 @@
 use mathlib.Core.Path.{refl, sym, ap}
 use Rattle.words.specs.Choice.{◌⇒◌⁏◌}
 use Rattle.slot.specs.declared.Slot.{Slot}
-use Rattle.faults.specs.Faults.{ResetParameters, request_of}
+use Rattle.faults.specs.declared.Request.TheVariants.{ResetParameters}
+use Rattle.faults.specs.Faults.{request_of}
 use Rattle.frame.specs.Exchange.{told, deed}
 use Rattle.frame.proofs.AnswerLaws.{names_0}
 use borrow.Author.Rules.{rules}

@@ -4,7 +4,8 @@ use Prim.Native.Nat.{ℕ}
 use Rattle.words.specs.Choice.{◌⇒◌⁏◌}
 use Rattle.slot.specs.declared.Slot.{Slot}
 use Rattle.slot.specs.Slots.{set_as}
-use Rattle.faults.specs.Faults.{SetParameters, request_of}
+use Rattle.faults.specs.declared.Request.TheVariants.{SetParameters}
+use Rattle.faults.specs.Faults.{request_of}
 use Rattle.frame.specs.Exchange.{told, deed}
 use Rattle.frame.proofs.AnswerLaws.{names_0}
 use borrow.Author.Rules.{rules}

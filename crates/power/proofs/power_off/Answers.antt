@@ -4,7 +4,8 @@ use mathlib.Core.Bool.{false}
 use native.Mathlib.Omega.{arith}
 use Rattle.words.specs.Choice.{◌⇒◌⁏◌}
 use Rattle.slot.specs.Slots.{powered}
-use Rattle.faults.specs.Faults.{PowerOff, request_of}
+use Rattle.faults.specs.declared.Request.TheVariants.{PowerOff}
+use Rattle.faults.specs.Faults.{request_of}
 use Rattle.frame.specs.Exchange.{deed}
 use Rattle.frame.proofs.AnswerLaws.{gives_failed, gives_quiet, sealed_slot, sealed_clear, names_0}
 use borrow.Author.Rules.{rules}

@@ -13,7 +13,8 @@ use Rattle.slot.specs.declared.Holds.{Holds}
 use Rattle.slot.specs.Slots.{powered, defaulted}
 use Rattle.sound.specs.Sound.{image_is_card}
 use Rattle.orders.specs.Orders.{Deed}
-use Rattle.faults.specs.Faults.{PowerOn, request_of}
+use Rattle.faults.specs.declared.Request.TheVariants.{PowerOn}
+use Rattle.faults.specs.Faults.{request_of}
 use Rattle.frame.specs.Exchange.{reset, deed}
 use Rattle.frame.proofs.AnswerLaws.{gives_failed, gives_quiet, gives_done, sealed_slot, sealed_clear, names_0}
 use borrow.Author.Rules.{rules}

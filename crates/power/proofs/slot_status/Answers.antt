@@ -2,7 +2,8 @@
 use mathlib.Core.Path.{refl, sym, ◌∙◌}
 use native.Mathlib.Omega.{arith}
 use Rattle.words.specs.Choice.{◌⇒◌⁏◌}
-use Rattle.faults.specs.Faults.{SlotStatus, request_of}
+use Rattle.faults.specs.declared.Request.TheVariants.{SlotStatus}
+use Rattle.faults.specs.Faults.{request_of}
 use Rattle.frame.specs.Exchange.{deed}
 use Rattle.frame.proofs.AnswerLaws.{gives_failed, gives_quiet, sealed_clear, names_0}
 use borrow.Author.Rules.{rules}
