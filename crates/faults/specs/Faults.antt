@@ -1,5 +1,5 @@
 -- "Messages": the header, the supported types, and the faults in their order.
-use Rattle.std.specs.Prelude.{ℕ, ◌-◌, Bool, true, false, not, Option, Some, None, is_some, option_map, List, length, drop, ltb, leb}
+use Rattle.std.specs.Prelude.{ℕ, ◌-◌, Bool, true, false, not, Option, Some, None, is_some, is_none, option_map, List, length, drop, ltb, leb}
 use Rattle.words.specs.Choice.{◌⇒◌⁏◌, ◌or◌, ◌is◌, ◌isnt◌}
 use Rattle.words.specs.Bytes.{byte, four_at}
 use Rattle.sets.specs.Sets.{fault_at, set_of}
@@ -90,8 +90,7 @@ ready Unsupported s = true
 
 -- nothing is wrong
 abbrev pub is_clear : Option Fault → Bool
-is_clear None = true
-is_clear (Some fault) = false
+is_clear fault = is_none fault
 
 -- "First fault wins"
 unfoldable pub fault_of : Request → Slot → List ℕ → Option Fault

@@ -201,7 +201,8 @@ pub fn seal(
 
 // The answer of a message without a fault, sealed likewise: it names slot 0.
 pub fn seal_done(answer_type: u8, len: usize, slot: Slot, msg: &[u8], answer: &mut [u8]) -> Reply
-    requires { (10 ≤ length msg.now) × (10 ≤ length answer.old) × (len ≤ 257) × (b_slot msg.now ≡ 0) }
+    requires fits { (10 ≤ length msg.now) × (10 ≤ length answer.old) × (len ≤ 257) }
+    requires slot_0 { b_slot msg.now ≡ 0 }
     ensures { Sealed answer_type None len slot msg.now result answer.old answer.new }
 {
     let state = state_of(0, slot);

@@ -14,7 +14,7 @@ unfolding b_status ◌⇒◌⁏◌
 returns c =
     let a = c.args in
     let m : List ℕ = a.msg.now in
-    let named : 0 ≡ b_slot m = sym c.requires.3 in
+    let named : 0 ≡ b_slot m = sym c.requires.slot_0 in
     let st : ℕ = card_state (b_slot m) a.slot in
     let state : c.state_of-state.result ≡ st = c.state_of-state.ensures.0 ∙ ap (λ (n : ℕ). card_state n a.slot) named in
     let last : c.last_of.result ≡ byte9 a.answer_type None st a.slot =
