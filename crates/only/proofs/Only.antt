@@ -8,6 +8,7 @@ use lib.ListN.{length, take}
 use lib.IntN.{ℤ}
 use Rattle.words.specs.Choice.{◌⇒◌⁏◌, ◌is◌}
 use Rattle.words.specs.Bounds.{least_room}
+use Rattle.std.specs.Prelude.{Option}
 use Rattle.records.specs.declared.Mark.{Mark}
 use Rattle.records.specs.declared.Marked.{Marked}
 use Rattle.records.specs.declared.Record.{Record}
@@ -103,7 +104,7 @@ sets_default_set_only r r' = value_only
 pub sets_set_of_only : (m : List ℕ) (r r' : ℕ) → r ≡ set_of m → r' ≡ set_of m → r ≡ r'
 sets_set_of_only m r r' = value_only
 
-pub sets_fault_at_only : (set n : ℕ) (r r' : ℕ) → r ≡ fault_at set n → r' ≡ fault_at set n → r ≡ r'
+pub sets_fault_at_only : (set n : ℕ) (r r' : Option ℕ) → r ≡ fault_at set n → r' ≡ fault_at set n → r ≡ r'
 sets_fault_at_only set n r r' = value_only
 
 pub sets_is_taken_only : (set : ℕ) (r r' : Bool) → r ≡ takes set → r' ≡ takes set → r ≡ r'
