@@ -9,7 +9,7 @@ use lib.ListN.{length}
 use borrow.Author.Tests.{eqb-true, not-true, not-false}
 use Rattle.words.specs.Choice.{◌⇒◌⁏◌, ◌and◌, ◌or◌, ◌is◌, ◌isnt◌}
 use Rattle.words.specs.Bytes.{byte, same}
-use Rattle.words.proofs.Choices.{either, past, first, rest, and_true, same_choice, never, no_test}
+use Rattle.words.proofs.Choices.{either, past, rest, and_true, same_choice, never, no_test}
 use Rattle.chips.specs.declared.Chip.{Chip}
 use Rattle.chips.specs.declared.Known.{Known}
 use Rattle.chips.specs.declared.Known.TheVariants.{Is, Unknown}
@@ -31,7 +31,7 @@ use Rattle.std.specs.Prelude.{Option, Some, None, is_some, option_map}
 use Rattle.faults.specs.declared.Fault.{Fault}
 use Rattle.faults.specs.declared.Request.{Request}
 use Rattle.faults.specs.declared.Request.TheVariants.{SetParameters, Transfer}
-use Rattle.faults.specs.Faults.{type_byte, dw_length, b_slot, apdu, request_of, data_fits, bad_field, ready, fault_of}
+use Rattle.faults.specs.Faults.{type_byte, dw_length, b_slot, apdu, request_of, data_fits, ready, fault_of}
 use Rattle.orders.specs.Orders.{Deed, done, unequal, reported, written, written_word, said_by, image_by, slot_by, performed, commanded}
 use Rattle.frame.specs.declared.Refusal.{Refusal}
 use Rattle.frame.specs.Exchange.{served, Outcome, turned_down, answered, replied, reply, exchange, inserted_as, insertion}
