@@ -6,10 +6,11 @@ ghost use Rattle.std.specs.Prelude.{◌≡◌, true, List, ℕ, ◌≤◌, ◌<�
 ghost use Rattle.words.specs.Bounds.{least_room};
 ghost use Rattle.counts.specs.Counts.{protected_of};
 ghost use Rattle.sound.specs.Sound.{image_is_card};
-ghost use Rattle.faults.specs.Faults.{Transfer, Unsupported, type_byte, request_of};
+ghost use Rattle.faults.specs.declared.Request.TheVariants.{Transfer, Unsupported};
+ghost use Rattle.faults.specs.Faults.{type_byte, request_of};
 ghost use Rattle.frame.specs.Exchange.{reply, Gives};
 
-use faults::{Fault, fault_of, is_clear};
+use faults::{Fault, Request, fault_of};
 use frame::{Reply, seal, seal_done};
 use slot::Slot;
 
@@ -19,17 +20,15 @@ fn transfer(slot: Slot, image: &mut [u8], msg: &[u8], answer: &mut [u8]) -> Repl
         × (slot.protected ≡ protected_of slot.holds image.old) }
     ensures { Gives (reply Transfer slot image.old msg.now) result image.new answer.old answer.new }
 {
-    let fault = fault_of(0x6F, slot, msg);
-    if !is_clear(fault) {
+    let fault = fault_of(Request::Transfer, slot, msg);
+    if fault.is_some() {
         return seal(0x80, fault, 0, slot, msg, answer);
     }
     let Some(chip) = slot.holds else {
         return seal(0x80, fault, 0, slot, msg, answer);
     };
     let told = command::command(chip, slot, image, &msg[10..], &mut answer[10..]);
-    let len = told.len;
-    let next = told.slot;
-    seal_done(0x80, len, next, msg, answer)
+    seal_done(0x80, told.len, told.slot, msg, answer)
 }
 
 // A type that is not supported.
@@ -37,7 +36,7 @@ fn unsupported(slot: Slot, msg: &[u8], answer: &mut [u8]) -> Reply
     requires { (10 ≤ length msg.now) × (least_room ≤ length answer.old) }
     ensures { (image : List ℕ) → Gives (reply Unsupported slot image msg.now) result image answer.old answer.new }
 {
-    seal(0x81, Fault::Unknown, 0, slot, msg, answer)
+    seal(0x81, Some(Fault::Unknown), 0, slot, msg, answer)
 }
 
 // The handler of the type byte.
@@ -47,15 +46,14 @@ pub fn handle(slot: Slot, image: &mut [u8], msg: &[u8], answer: &mut [u8]) -> Re
     ensures { Gives (reply (request_of (type_byte msg.now)) slot image.old msg.now) result image.new
         answer.old answer.new }
 {
-    let message_type = msg[0];
-    match message_type {
-        0x61 => params::set_parameters(slot, msg, answer),
-        0x62 => power::power_on(slot, image, msg, answer),
-        0x63 => power::power_off(slot, msg, answer),
-        0x65 => power::slot_status(slot, msg, answer),
-        0x6C => params::get_parameters(slot, msg, answer),
-        0x6D => params::reset_parameters(slot, msg, answer),
-        0x6F => transfer(slot, image, msg, answer),
-        0x00..=0x60 | 0x64 | 0x66..=0x6B | 0x6E | 0x70..=0xFF => unsupported(slot, msg, answer),
+    match Request::from(msg[0]) {
+        Request::SetParameters => params::set_parameters(slot, msg, answer),
+        Request::PowerOn => power::power_on(slot, image, msg, answer),
+        Request::PowerOff => power::power_off(slot, msg, answer),
+        Request::SlotStatus => power::slot_status(slot, msg, answer),
+        Request::GetParameters => params::get_parameters(slot, msg, answer),
+        Request::ResetParameters => params::reset_parameters(slot, msg, answer),
+        Request::Transfer => transfer(slot, image, msg, answer),
+        Request::Unsupported => unsupported(slot, msg, answer),
     }
 }

@@ -1,3 +1,2 @@
-pub mod TypeLaws
 pub mod FaultLaws
 pub mod ClearLaws

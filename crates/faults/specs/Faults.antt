@@ -1,12 +1,14 @@
 -- "Messages": the header, the supported types, and the faults in their order.
-use Rattle.std.specs.Prelude.{ℕ, ◌-◌, Bool, true, false, not, List, length, drop, ltb, leb}
+use Rattle.std.specs.Prelude.{ℕ, ◌-◌, Bool, true, false, not, Option, Some, None, is_some, is_none, option_map, List, length, drop, ltb, leb}
 use Rattle.words.specs.Choice.{◌⇒◌⁏◌, ◌or◌, ◌is◌, ◌isnt◌}
 use Rattle.words.specs.Bytes.{byte, four_at}
 use Rattle.sets.specs.Sets.{fault_at, set_of}
 use Rattle.slot.specs.declared.Slot.{Slot}
 use Rattle.slot.specs.Slots.{occupied}
+use Rattle.faults.specs.declared.Request.{Request}
+use Rattle.faults.specs.declared.Request.TheVariants.{SetParameters, PowerOn, PowerOff, SlotStatus, GetParameters, ResetParameters, Transfer, Unsupported}
 use Rattle.faults.specs.declared.Fault.{Fault}
-use Rattle.faults.specs.declared.Fault.TheVariants.{Clear, Unknown, Length, OtherSlot, Field, Card}
+use Rattle.faults.specs.declared.Fault.TheVariants.{Unknown, Length, OtherSlot, Field, Card}
 
 -- "Header: type, dwLength (4 bytes, low first), bSlot, bSeq, three more bytes; the pseudo-APDU begins at byte 10 of the message"
 abbrev pub type_byte : List ℕ → ℕ
@@ -29,16 +31,6 @@ apdu m = drop 10 m
 
 -- "Supported types are 62h, 63h, 65h and 6Fh (power on, power off, slot status, transfer)"; 02: "GetParameters (6Ch), ResetParameters (6Dh)
 -- and SetParameters (61h)" join them
-pub data Request : Type 0 where
-  SetParameters : Request
-  PowerOn : Request
-  PowerOff : Request
-  SlotStatus : Request
-  GetParameters : Request
-  ResetParameters : Request
-  Transfer : Request
-  Unsupported : Request
-
 unfoldable pub request_of : ℕ → Request
 request_of b =
     b is 0x61 ⇒ SetParameters
@@ -74,16 +66,16 @@ data_fits Transfer n = leb n 261
 data_fits Unsupported n = true
 
 -- fault 4: "62h with bPowerSelect (byte 7) above 3: 07h; 6Fh with wLevelParameter (bytes 8, 9) not 0: 08h"; 61h's, each "their own offset".
--- Each is told by the offset of the field that is wrong: that offset, or 0 where none is.
-abbrev pub bad_field : Request → List ℕ → ℕ
+-- Each is told by the offset of the field that is wrong.
+abbrev pub bad_field : Request → List ℕ → Option ℕ
 bad_field SetParameters m = fault_at (set_of m) (length m - 10)
-bad_field PowerOn m = ltb 3 (b_power_select m) ⇒ 7 ⁏ 0
-bad_field PowerOff m = 0
-bad_field SlotStatus m = 0
-bad_field GetParameters m = 0
-bad_field ResetParameters m = 0
-bad_field Transfer m = byte m 8 isnt 0 ⇒ 8 ⁏ byte m 9 isnt 0 ⇒ 8 ⁏ 0
-bad_field Unsupported m = 0
+bad_field PowerOn m = ltb 3 (b_power_select m) ⇒ Some 7 ⁏ None
+bad_field PowerOff m = None
+bad_field SlotStatus m = None
+bad_field GetParameters m = None
+bad_field ResetParameters m = None
+bad_field Transfer m = byte m 8 isnt 0 ⇒ Some 8 ⁏ byte m 9 isnt 0 ⇒ Some 8 ⁏ None
+bad_field Unsupported m = None
 
 -- fault 5: "62h without a card, 6Fh without an active card"; 02: "no card is FEh at step 5"
 abbrev pub ready : Request → Slot → Bool
@@ -96,21 +88,17 @@ ready ResetParameters s = occupied s.holds
 ready Transfer s = s.active
 ready Unsupported s = true
 
-abbrev pub is_clear : Fault → Bool
-is_clear Clear = true
-is_clear Unknown = false
-is_clear Length = false
-is_clear OtherSlot = false
-is_clear (Field at) = false
-is_clear Card = false
+-- nothing is wrong
+abbrev pub is_clear : Option Fault → Bool
+is_clear fault = is_none fault
 
 -- "First fault wins"
-unfoldable pub fault_of : Request → Slot → List ℕ → Fault
+unfoldable pub fault_of : Request → Slot → List ℕ → Option Fault
 fault_of r s m =
-    not (supported r) ⇒ Unknown
-    ⁏ dw_length m isnt (length m - 10) ⇒ Length
-    ⁏ not (data_fits r (dw_length m)) ⇒ Length
-    ⁏ b_slot m isnt 0 ⇒ OtherSlot
-    ⁏ bad_field r m isnt 0 ⇒ Field (bad_field r m)
-    ⁏ not (ready r s) ⇒ Card
-    ⁏ Clear
+    not (supported r) ⇒ Some Unknown
+    ⁏ dw_length m isnt (length m - 10) ⇒ Some Length
+    ⁏ not (data_fits r (dw_length m)) ⇒ Some Length
+    ⁏ b_slot m isnt 0 ⇒ Some OtherSlot
+    ⁏ is_some (bad_field r m) ⇒ option_map Field (bad_field r m)
+    ⁏ not (ready r s) ⇒ Some Card
+    ⁏ None

@@ -3,15 +3,27 @@
 #![tactic(auto)]
 
 ghost use Rattle.std.specs.Prelude.{◌≡◌, ◌≤◌, length};
-ghost use Rattle.faults.specs.Faults.{SetParameters, PowerOn, Transfer, request_of, supported, data_fits, bad_field, ready, fault_of, is_clear};
+ghost use Rattle.faults.specs.Faults.{request_of, supported, data_fits, bad_field, ready, fault_of};
 
 use slot::Slot;
 use words::four_at;
 
-// What is wrong with a message, first fault first; Clear where nothing is.
+// What a message asks for, by its type byte.
+#[derive(Clone, Copy)]
+pub enum Request {
+    SetParameters,
+    PowerOn,
+    PowerOff,
+    SlotStatus,
+    GetParameters,
+    ResetParameters,
+    Transfer,
+    Unsupported,
+}
+
+// What is wrong with a message.
 #[derive(Clone, Copy)]
 pub enum Fault {
-    Clear,
     // An unsupported type.
     Unknown,
     Length,
@@ -23,157 +35,107 @@ pub enum Fault {
     Card,
 }
 
-// ---- tables by type: a new type is a new arm in each
+impl From<u8> for Request {
+    ghost from_gives = { λ b r. r ≡ request_of b };
 
-// 1: the supported types.
-fn is_supported(message_type: u8) -> bool
-    ensures { result ≡ supported (request_of message_type) }
-{
-    match message_type {
-        0x61 => true,
-        0x62 => true,
-        0x63 => true,
-        0x65 => true,
-        0x6C => true,
-        0x6D => true,
-        0x6F => true,
-        0x00..=0x60 | 0x64 | 0x66..=0x6B | 0x6E | 0x70..=0xFF => false,
+    fn from(message_type: u8) -> Request {
+        match message_type {
+            0x61 => Request::SetParameters,
+            0x62 => Request::PowerOn,
+            0x63 => Request::PowerOff,
+            0x65 => Request::SlotStatus,
+            0x6C => Request::GetParameters,
+            0x6D => Request::ResetParameters,
+            0x6F => Request::Transfer,
+            0x00..=0x60 | 0x64 | 0x66..=0x6B | 0x6E | 0x70..=0xFF => Request::Unsupported,
+        }
     }
 }
 
-// The data lengths of SetParameters.
-fn set_length(n: usize) -> bool
-    ensures { result ≡ data_fits SetParameters n }
-{
-    if n == 5 {
-        return true;
+// ---- tables by type: a new type is a new line in each
+impl Request {
+    // 1: the supported types.
+    fn is_supported(self) -> bool
+        ensures { result ≡ supported self }
+    {
+        !matches!(self, Request::Unsupported)
     }
-    n == 7
-}
 
-// 2: the data lengths of a type.
-fn data_fits(message_type: u8, n: usize) -> bool
-    ensures { result ≡ data_fits (request_of message_type) n }
-{
-    match message_type {
-        0x61 => set_length(n),
-        0x62 => n == 0,
-        0x63 => n == 0,
-        0x65 => n == 0,
-        0x6C => n == 0,
-        0x6D => n == 0,
-        0x6F => n <= 261,
-        0x00..=0x60 | 0x64 | 0x66..=0x6B | 0x6E | 0x70..=0xFF => true,
+    // 2: the data lengths of a type.
+    fn data_fits(self, n: usize) -> bool
+        ensures { result ≡ data_fits self n }
+    {
+        match self {
+            Request::SetParameters => n == 5 || n == 7,
+            Request::PowerOn => n == 0,
+            Request::PowerOff => n == 0,
+            Request::SlotStatus => n == 0,
+            Request::GetParameters => n == 0,
+            Request::ResetParameters => n == 0,
+            Request::Transfer => n <= 261,
+            Request::Unsupported => true,
+        }
     }
-}
 
-// Byte 7 where bPowerSelect is above 3.
-fn power_field(msg: &[u8]) -> u8
-    requires { 10 ≤ length msg.now }
-    ensures { result ≡ bad_field PowerOn msg.now }
-{
-    if 3 < msg[7] {
-        return 7;
+    // 4: the offset of the first field of its own that a type has wrong: bPowerSelect above 3, wLevelParameter not 0, a byte of a parameter set.
+    fn bad_field(self, msg: &[u8]) -> Option<u8>
+        requires { 10 ≤ length msg.now }
+        ensures { result ≡ bad_field self msg.now }
+    {
+        match self {
+            Request::SetParameters => sets::fault_at(sets::set_of(msg), msg.len() - 10),
+            Request::PowerOn => (3 < msg[7]).then_some(7),
+            Request::PowerOff => None,
+            Request::SlotStatus => None,
+            Request::GetParameters => None,
+            Request::ResetParameters => None,
+            Request::Transfer => (msg[8] != 0 || msg[9] != 0).then_some(8),
+            Request::Unsupported => None,
+        }
     }
-    0
-}
 
-// Byte 8 where wLevelParameter is not 0.
-fn level_field(msg: &[u8]) -> u8
-    requires { 10 ≤ length msg.now }
-    ensures { result ≡ bad_field Transfer msg.now }
-{
-    if msg[8] != 0 {
-        return 8;
-    }
-    if msg[9] != 0 {
-        return 8;
-    }
-    0
-}
-
-// The first byte of a parameter set that is wrong.
-fn set_field(msg: &[u8]) -> u8
-    requires { 10 ≤ length msg.now }
-    ensures { result ≡ bad_field SetParameters msg.now }
-{
-    let set = sets::set_of(msg);
-    sets::fault_at(set, msg.len() - 10)
-}
-
-// 4: the offset of the first field of its own that a type has wrong; 0 where none is.
-fn bad_field(message_type: u8, msg: &[u8]) -> u8
-    requires { 10 ≤ length msg.now }
-    ensures { result ≡ bad_field (request_of message_type) msg.now }
-{
-    match message_type {
-        0x61 => set_field(msg),
-        0x62 => power_field(msg),
-        0x63 => 0,
-        0x65 => 0,
-        0x6C => 0,
-        0x6D => 0,
-        0x6F => level_field(msg),
-        0x00..=0x60 | 0x64 | 0x66..=0x6B | 0x6E | 0x70..=0xFF => 0,
-    }
-}
-
-// 5: the slot that a type needs.
-fn is_ready(message_type: u8, slot: Slot) -> bool
-    ensures { result ≡ ready (request_of message_type) slot }
-{
-    match message_type {
-        0x61 => slot.has_card(),
-        0x62 => slot.has_card(),
-        0x63 => true,
-        0x65 => true,
-        0x6C => slot.has_card(),
-        0x6D => slot.has_card(),
-        0x6F => slot.active,
-        0x00..=0x60 | 0x64 | 0x66..=0x6B | 0x6E | 0x70..=0xFF => true,
+    // 5: the slot that a type needs.
+    fn is_ready(self, slot: Slot) -> bool
+        ensures { result ≡ ready self slot }
+    {
+        match self {
+            Request::SetParameters => slot.has_card(),
+            Request::PowerOn => slot.has_card(),
+            Request::PowerOff => true,
+            Request::SlotStatus => true,
+            Request::GetParameters => slot.has_card(),
+            Request::ResetParameters => slot.has_card(),
+            Request::Transfer => slot.active,
+            Request::Unsupported => true,
+        }
     }
 }
 
 // ---- the chain
 
-// Whether nothing is wrong.
-pub fn is_clear(fault: Fault) -> bool
-    ensures { result ≡ is_clear fault }
-{
-    match fault {
-        Fault::Clear => true,
-        Fault::Unknown => false,
-        Fault::Length => false,
-        Fault::OtherSlot => false,
-        Fault::Field(_) => false,
-        Fault::Card => false,
-    }
-}
-
 // The first fault of a message of a type.
-pub fn fault_of(message_type: u8, slot: Slot, msg: &[u8]) -> Fault
+pub fn fault_of(request: Request, slot: Slot, msg: &[u8]) -> Option<Fault>
     requires { 10 ≤ length msg.now }
-    ensures { result ≡ fault_of (request_of message_type) slot msg.now }
+    ensures { result ≡ fault_of request slot msg.now }
 {
-    if !is_supported(message_type) {
-        return Fault::Unknown;
+    if !request.is_supported() {
+        return Some(Fault::Unknown);
     }
     let n = four_at(msg, 1);
     if n != msg.len() - 10 {
-        return Fault::Length;
+        return Some(Fault::Length);
     }
-    if !data_fits(message_type, n) {
-        return Fault::Length;
+    if !request.data_fits(n) {
+        return Some(Fault::Length);
     }
     if msg[5] != 0 {
-        return Fault::OtherSlot;
+        return Some(Fault::OtherSlot);
     }
-    let field = bad_field(message_type, msg);
-    if field != 0 {
-        return Fault::Field(field);
+    if let Some(at) = request.bad_field(msg) {
+        return Some(Fault::Field(at));
     }
-    if !is_ready(message_type, slot) {
-        return Fault::Card;
+    if !request.is_ready(slot) {
+        return Some(Fault::Card);
     }
-    Fault::Clear
+    None
 }

@@ -4,6 +4,7 @@ use Prim.Native.Nat.{ℕ, zero, suc, ◌≤◌, ◌<◌}
 use mathlib.Core.Bool.{true, false, not, false≢true}
 use mathlib.Core.List.{List, ◌++◌}
 use native.Mathlib.Omega.{arith}
+use Rattle.std.specs.Prelude.{Option, None}
 use lib.ListN.{length, take, drop, length-append, take-append-drop}
 use Rattle.std.specs.Prelude.{Err}
 use Rattle.words.specs.Choice.{◌or◌}
@@ -17,7 +18,8 @@ use Rattle.faults.specs.declared.Fault.{Fault}
 use Rattle.frame.specs.declared.Refusal.{Refusal}
 use Rattle.frame.specs.declared.Reply.{Reply}
 use Rattle.faults.proofs.ClearLaws.{clear_is, clear_slot}
-use Rattle.faults.specs.Faults.{Request, b_slot, b_seq, type_byte, request_of, fault_of, is_clear}
+use Rattle.faults.specs.declared.Request.{Request}
+use Rattle.faults.specs.Faults.{b_slot, b_seq, type_byte, request_of, fault_of, is_clear}
 use Rattle.frame.specs.Answers.{answer_type, b_error, card_state, b_status, byte9, header, answer}
 use Rattle.frame.specs.Exchange.{Outcome, number, answer_length, turned_down, idle, deed, answered, replied, reply, served, Gives, Sealed}
 
@@ -41,7 +43,7 @@ unfolding header four_bytes
 length_header type len n seq status error last = refl
 
 -- the data stand from byte 10 on, and the header is put before them
-pub gives_sealed : (r : Request) (m : List ℕ) (f : Fault) (d : Deed) (was : List ℕ) {n : ℕ} {rep : Reply} {left mid holds : List ℕ}
+pub gives_sealed : (r : Request) (m : List ℕ) (f : Option Fault) (d : Deed) (was : List ℕ) {n : ℕ} {rep : Reply} {left mid holds : List ℕ}
     → n ≡ length d.said → 10 ≤ length was → mid ≡ take 10 was ++ over d.said (drop 10 was) → left ≡ d.image
     → Sealed (answer_type r) f n d.slot m rep mid holds → Gives (answered r m f d) rep left was holds
 unfolding answer
@@ -67,32 +69,32 @@ gives_sealed r m f d was {n} {rep} {left} {mid} {holds} e h p q z =
     }
 
 -- there are no data
-pub gives_plain : (r : Request) (m : List ℕ) (f : Fault) (s : Slot) (image was : List ℕ) {rep : Reply} {holds : List ℕ} → 10 ≤ length was
+pub gives_plain : (r : Request) (m : List ℕ) (f : Option Fault) (s : Slot) (image was : List ℕ) {rep : Reply} {holds : List ℕ} → 10 ≤ length was
     → Sealed (answer_type r) f 0 s m rep was holds → Gives (answered r m f (idle s image)) rep image was holds
 gives_plain r m f s image was h z =
     gives_sealed r m f (idle s image) was refl h (sym (ap (λ (l : List ℕ). take 10 was ++ l) (over_none (drop 10 was)) ∙ take-append-drop 10 was)) refl z
 
-pub sealed_slot : {type : ℕ} {f : Fault} {n : ℕ} {s s' : Slot} {m : List ℕ} {r : Reply} {was holds : List ℕ} → s ≡ s' → Sealed type f n s m r was holds
+pub sealed_slot : {type : ℕ} {f : Option Fault} {n : ℕ} {s s' : Slot} {m : List ℕ} {r : Reply} {was holds : List ℕ} → s ≡ s' → Sealed type f n s m r was holds
     → Sealed type f n s' m r was holds
 sealed_slot {type} {f} {n} {s} {s'} {m} {r} {was} {holds} e z = subst (λ (x : Slot). Sealed type f n x m r was holds) e z
 
-pub sealed_type : {type type' : ℕ} {f : Fault} {n : ℕ} {s : Slot} {m : List ℕ} {r : Reply} {was holds : List ℕ} → type ≡ type' → Sealed type f n s m r was holds
+pub sealed_type : {type type' : ℕ} {f : Option Fault} {n : ℕ} {s : Slot} {m : List ℕ} {r : Reply} {was holds : List ℕ} → type ≡ type' → Sealed type f n s m r was holds
     → Sealed type' f n s m r was holds
 sealed_type {type} {type'} {f} {n} {s} {m} {r} {was} {holds} e z = subst (λ (x : ℕ). Sealed x f n s m r was holds) e z
 
 -- without a fault
-pub sealed_clear : {type : ℕ} {f : Fault} {n : ℕ} {s : Slot} {m : List ℕ} {r : Reply} {was holds : List ℕ} → is_clear f ≡ true
-    → Sealed type Fault.Clear n s m r was holds → Sealed type f n s m r was holds
-sealed_clear {type} {f} {n} {s} {m} {r} {was} {holds} e z = subst⁻¹ (λ (x : Fault). Sealed type x n s m r was holds) (clear_is f e) z
+pub sealed_clear : {type : ℕ} {f : Option Fault} {n : ℕ} {s : Slot} {m : List ℕ} {r : Reply} {was holds : List ℕ} → is_clear f ≡ true
+    → Sealed type None n s m r was holds → Sealed type f n s m r was holds
+sealed_clear {type} {f} {n} {s} {m} {r} {was} {holds} e z = subst⁻¹ (λ (x : Option Fault). Sealed type x n s m r was holds) (clear_is f e) z
 
-pub names_0 : (r : Request) (s : Slot) (m : List ℕ) {f : Fault} → f ≡ fault_of r s m → is_clear f ≡ true → b_slot m ≡ 0
-names_0 r s m is e = clear_slot r s m (subst (λ (x : Fault). is_clear x ≡ true) is e)
+pub names_0 : (r : Request) (s : Slot) (m : List ℕ) {f : Option Fault} → f ≡ fault_of r s m → is_clear f ≡ true → b_slot m ≡ 0
+names_0 r s m is e = clear_slot r s m (subst (λ (x : Option Fault). is_clear x ≡ true) is e)
 
 -- ---- a reply, with the fault that was found
-module _ (r : Request) (s : Slot) (image m : List ℕ) {f : Fault} (is : f ≡ fault_of r s m) where
+module _ (r : Request) (s : Slot) (image m : List ℕ) {f : Option Fault} (is : f ≡ fault_of r s m) where
   by_fault : {rep : Reply} {left was holds : List ℕ} → Gives (replied r f s image m) rep left was holds → Gives (reply r s image m) rep left was holds
   unfolding reply
-  by_fault {rep} {left} {was} {holds} g = subst (λ (x : Fault). Gives (replied r x s image m) rep left was holds) is g
+  by_fault {rep} {left} {was} {holds} g = subst (λ (x : Option Fault). Gives (replied r x s image m) rep left was holds) is g
 
   -- "a failed message has no data and changes neither slot nor image"
   pub gives_failed : (was : List ℕ) {rep : Reply} {holds : List ℕ} → is_clear f ≡ false → 10 ≤ length was → Sealed (answer_type r) f 0 s m rep was holds

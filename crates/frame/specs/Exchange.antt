@@ -1,5 +1,5 @@
 -- One message, one insertion, one removal: what comes of each, for every input.
-use Rattle.std.specs.Prelude.{◌≡◌, ℕ, ◌+◌, true, false, not, List, [], ◌∷◌, length, take, ltb, Option, Result, Some, None, Ok, Err}
+use Rattle.std.specs.Prelude.{◌≡◌, ℕ, ◌+◌, true, false, not, Option, Some, None, Result, Ok, Err, List, [], ◌∷◌, length, take, ltb}
 use Rattle.words.specs.Choice.{◌⇒◌⁏◌, ◌isnt◌}
 use Rattle.words.specs.Bytes.{over}
 use Rattle.words.specs.Bounds.{least_room}
@@ -15,7 +15,8 @@ use Rattle.orders.specs.Orders.{Deed, commanded}
 use Rattle.faults.specs.declared.Fault.{Fault}
 use Rattle.frame.specs.declared.Refusal.{Refusal}
 use Rattle.frame.specs.declared.Reply.{Reply}
-use Rattle.faults.specs.Faults.{Request, SetParameters, PowerOn, PowerOff, SlotStatus, GetParameters, ResetParameters, Transfer, Unsupported}
+use Rattle.faults.specs.declared.Request.{Request}
+use Rattle.faults.specs.declared.Request.TheVariants.{SetParameters, PowerOn, PowerOff, SlotStatus, GetParameters, ResetParameters, Transfer, Unsupported}
 use Rattle.faults.specs.Faults.{type_byte, apdu, b_slot, b_seq, request_of, fault_of, is_clear}
 use Rattle.frame.specs.Answers.{b_error, card_state, b_status, byte9, header, answer}
 use Rattle.chips.specs.declared.Chip.{Chip}
@@ -65,11 +66,11 @@ deed Transfer (Some chip) s image m = commanded (facts chip) s image (apdu m)
 deed Unsupported h s image m = idle s image
 
 -- the answer to a message with fault f and deed d
-abbrev pub answered : Request → List ℕ → Fault → Deed → Outcome
+abbrev pub answered : Request → List ℕ → Option Fault → Deed → Outcome
 answered r m f d = record { number = 0; answer = answer r m f d.slot d.said; slot = d.slot; image = d.image }
 
 -- "a failed message has no data and changes neither slot nor image"
-unfoldable pub replied : Request → Fault → Slot → List ℕ → List ℕ → Outcome
+unfoldable pub replied : Request → Option Fault → Slot → List ℕ → List ℕ → Outcome
 replied r f s image m = answered r m f (is_clear f ⇒ deed r s.holds s image m ⁏ idle s image)
 
 unfoldable pub reply : Request → Slot → List ℕ → List ℕ → Outcome
@@ -118,7 +119,7 @@ pub record Gives (o : Outcome) (r : Reply) (left was holds : List ℕ) : Type 0 
   pub buffer : holds ≡ over o.answer was
 
 -- What sealing an answer leaves behind: its verdict, the slot after the call, and the header over the buffer. This is no rule.
-pub record Sealed (type : ℕ) (f : Fault) (len : ℕ) (s : Slot) (m : List ℕ) (r : Reply) (was holds : List ℕ) : Type 0 where
+pub record Sealed (type : ℕ) (f : Option Fault) (len : ℕ) (s : Slot) (m : List ℕ) (r : Reply) (was holds : List ℕ) : Type 0 where
   pub verdict : r.verdict ≡ Ok (10 + len)
   pub slot : r.slot ≡ s
   pub buffer : holds ≡ over (header type len (b_slot m) (b_seq m) (b_status f (card_state (b_slot m) s)) (b_error f) (byte9 type f (card_state (b_slot m) s) s)) was

@@ -3,16 +3,15 @@
 // The rules are written in specs/: Answers, and Exchange for what comes of a message, an insertion and a removal.
 #![tactic(auto)]
 
-ghost use Rattle.std.specs.Prelude.{◌≡◌, ◌≤◌, ◌<◌, length};
+ghost use Rattle.std.specs.Prelude.{◌≡◌, ◌≤◌, ◌<◌, None, length};
 ghost use Rattle.words.specs.Choice.{◌⇒◌⁏◌};
 ghost use Rattle.words.specs.Bytes.{over};
 ghost use Rattle.sets.specs.Sets.{protocol_of};
-ghost use Rattle.faults.specs.declared.Fault.TheVariants.{Clear};
 ghost use Rattle.faults.specs.Faults.{b_slot, is_clear};
 ghost use Rattle.frame.specs.Answers.{b_error, card_state, b_status, byte9, header};
 ghost use Rattle.frame.specs.Exchange.{number_of, number, answer_length, Sealed};
 
-use faults::{Fault, is_clear};
+use faults::Fault;
 use slot::Slot;
 
 // Why a call is turned down: the numbers 1 to 5 of the rules.
@@ -69,16 +68,16 @@ pub fn answer_length(verdict: Verdict) -> usize
 // ---- the header
 
 // bError.
-fn error_of(fault: Fault) -> u8
+fn error_of(fault: Option<Fault>) -> u8
     ensures { result ≡ b_error fault }
 {
     match fault {
-        Fault::Clear => 0x00,
-        Fault::Unknown => 0x00,
-        Fault::Length => 0x01,
-        Fault::OtherSlot => 0x05,
-        Fault::Field(at) => at,
-        Fault::Card => 0xFE,
+        None => 0x00,
+        Some(Fault::Unknown) => 0x00,
+        Some(Fault::Length) => 0x01,
+        Some(Fault::OtherSlot) => 0x05,
+        Some(Fault::Field(at)) => at,
+        Some(Fault::Card) => 0xFE,
     }
 }
 
@@ -99,28 +98,28 @@ fn state_of(bslot: u8, slot: Slot) -> u8
 }
 
 // bStatus: the card state, and 40h when failed.
-fn status_of(fault: Fault, state: u8) -> u8
+fn status_of(fault: Option<Fault>, state: u8) -> u8
     requires { state < 3 }
     ensures { result ≡ b_status fault state }
 {
-    if is_clear(fault) {
-        return state;
+    match fault {
+        None => state,
+        Some(_) => state + 0x40,
     }
-    state + 0x40
 }
 
 // The protocol number that 82h tells: that of the slot after the call, 0 where the message failed.
-fn protocol_of(fault: Fault, slot: Slot) -> u8
+fn protocol_of(fault: Option<Fault>, slot: Slot) -> u8
     ensures { result ≡ (is_clear fault ⇒ protocol_of slot.set ⁏ 0) }
 {
-    if is_clear(fault) {
-        return words::byte_of(slot.set, 0);
+    match fault {
+        None => words::byte_of(slot.set, 0),
+        Some(_) => 0,
     }
-    0
 }
 
 // Byte 9.
-fn last_of(answer_type: u8, fault: Fault, state: u8, slot: Slot) -> u8
+fn last_of(answer_type: u8, fault: Option<Fault>, state: u8, slot: Slot) -> u8
     ensures { result ≡ byte9 answer_type fault state slot }
 {
     if answer_type == 0x80 {
@@ -164,7 +163,7 @@ fn put_header(
 // The answer is sealed: its header goes before the data that stand from byte 10 on, and the slot after the call is handed back.
 pub fn seal(
     answer_type: u8,
-    fault: Fault,
+    fault: Option<Fault>,
     len: usize,
     slot: Slot,
     msg: &[u8],
@@ -193,8 +192,9 @@ pub fn seal(
 
 // The answer of a message without a fault, sealed likewise: it names slot 0.
 pub fn seal_done(answer_type: u8, len: usize, slot: Slot, msg: &[u8], answer: &mut [u8]) -> Reply
-    requires { (10 ≤ length msg.now) × (10 ≤ length answer.old) × (len ≤ 257) × (b_slot msg.now ≡ 0) }
-    ensures { Sealed answer_type Clear len slot msg.now result answer.old answer.new }
+    requires fits { (10 ≤ length msg.now) × (10 ≤ length answer.old) × (len ≤ 257) }
+    requires slot_0 { b_slot msg.now ≡ 0 }
+    ensures { Sealed answer_type None len slot msg.now result answer.old answer.new }
 {
     let state = state_of(0, slot);
     put_header(
@@ -205,7 +205,7 @@ pub fn seal_done(answer_type: u8, len: usize, slot: Slot, msg: &[u8], answer: &m
         msg[6],
         state,
         0,
-        last_of(answer_type, Fault::Clear, state, slot),
+        last_of(answer_type, None, state, slot),
     );
     Reply {
         verdict: Ok(10 + len),

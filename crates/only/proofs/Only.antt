@@ -9,7 +9,6 @@ use lib.IntN.{ℤ}
 use Rattle.std.specs.Prelude.{Option, Result}
 use Rattle.words.specs.Choice.{◌⇒◌⁏◌, ◌is◌}
 use Rattle.words.specs.Bounds.{least_room}
-use Rattle.std.specs.declared.option.Option.{Option}
 use Rattle.records.specs.declared.Mark.{Mark}
 use Rattle.records.specs.Records.{Found, mark_of, most, record_at}
 use Rattle.chips.specs.declared.Chip.{Chip}
@@ -99,7 +98,7 @@ sets_default_set_only r r' = value_only
 pub sets_set_of_only : (m : List ℕ) (r r' : ℕ) → r ≡ set_of m → r' ≡ set_of m → r ≡ r'
 sets_set_of_only m r r' = value_only
 
-pub sets_fault_at_only : (set n : ℕ) (r r' : ℕ) → r ≡ fault_at set n → r' ≡ fault_at set n → r ≡ r'
+pub sets_fault_at_only : (set n : ℕ) (r r' : Option ℕ) → r ≡ fault_at set n → r' ≡ fault_at set n → r ≡ r'
 sets_fault_at_only set n r r' = value_only
 
 pub sets_is_taken_only : (set : ℕ) (r r' : Bool) → r ≡ takes set → r' ≡ takes set → r ≡ r'

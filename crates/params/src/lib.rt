@@ -2,24 +2,24 @@
 // The rules are those of `frame` and `sets`.
 #![tactic(auto)]
 
-ghost use Rattle.std.specs.Prelude.{◌≡◌, true, List, ℕ, ◌≤◌, length};
+ghost use Rattle.std.specs.Prelude.{◌≡◌, List, ℕ, ◌≤◌, length};
 ghost use Rattle.words.specs.Bounds.{least_room};
-ghost use Rattle.faults.specs.Faults.{Request, SetParameters, GetParameters, ResetParameters, b_slot, is_clear, fault_of};
+ghost use Rattle.faults.specs.declared.Request.TheVariants.{SetParameters, GetParameters, ResetParameters};
 ghost use Rattle.frame.specs.Answers.{answer_type};
 ghost use Rattle.frame.specs.Exchange.{told, deed, reply, Gives};
 
-use faults::{Fault, fault_of, is_clear};
+use faults::{Request, fault_of};
 use frame::{Reply, seal, seal_done};
 use slot::Slot;
 
-// The answer 82h of a message with this fault: failed, no data and the slot as it was; else the next slot, and its parameters told.
-fn tell(fault: Fault, slot: Slot, next: Slot, msg: &[u8], answer: &mut [u8]) -> Reply
-    requires { (10 ≤ length msg.now) × (least_room ≤ length answer.old) × (is_clear fault ≡ true → b_slot msg.now ≡ 0) }
-    ensures { (q : Request) (image : List ℕ) → answer_type q ≡ 0x82 → fault ≡ fault_of q slot msg.now
-        → deed q slot.holds slot image msg.now ≡ told next image
-        → Gives (reply q slot image msg.now) result image answer.old answer.new }
+// The answer 82h of a request: failed, no data and the slot as it was; else the next slot, and its parameters told.
+fn tell(request: Request, slot: Slot, next: Slot, msg: &[u8], answer: &mut [u8]) -> Reply
+    requires { (10 ≤ length msg.now) × (least_room ≤ length answer.old) }
+    ensures { (image : List ℕ) → answer_type request ≡ 0x82 → deed request slot.holds slot image msg.now ≡ told next image
+        → Gives (reply request slot image msg.now) result image answer.old answer.new }
 {
-    if !is_clear(fault) {
+    let fault = fault_of(request, slot, msg);
+    if fault.is_some() {
         return seal(0x82, fault, 0, slot, msg, answer);
     }
     let len = sets::put_set(next.set, &mut answer[10..]);
@@ -31,9 +31,8 @@ pub fn set_parameters(slot: Slot, msg: &[u8], answer: &mut [u8]) -> Reply
     requires { (10 ≤ length msg.now) × (least_room ≤ length answer.old) }
     ensures { (image : List ℕ) → Gives (reply SetParameters slot image msg.now) result image answer.old answer.new }
 {
-    let fault = fault_of(0x61, slot, msg);
     let next = slot.with_set(sets::set_of(msg));
-    tell(fault, slot, next, msg, answer)
+    tell(Request::SetParameters, slot, next, msg, answer)
 }
 
 // 6Ch.
@@ -41,8 +40,7 @@ pub fn get_parameters(slot: Slot, msg: &[u8], answer: &mut [u8]) -> Reply
     requires { (10 ≤ length msg.now) × (least_room ≤ length answer.old) }
     ensures { (image : List ℕ) → Gives (reply GetParameters slot image msg.now) result image answer.old answer.new }
 {
-    let fault = fault_of(0x6C, slot, msg);
-    tell(fault, slot, slot, msg, answer)
+    tell(Request::GetParameters, slot, slot, msg, answer)
 }
 
 // 6Dh.
@@ -50,7 +48,11 @@ pub fn reset_parameters(slot: Slot, msg: &[u8], answer: &mut [u8]) -> Reply
     requires { (10 ≤ length msg.now) × (least_room ≤ length answer.old) }
     ensures { (image : List ℕ) → Gives (reply ResetParameters slot image msg.now) result image answer.old answer.new }
 {
-    let fault = fault_of(0x6D, slot, msg);
-    let next = slot.reset_set();
-    tell(fault, slot, next, msg, answer)
+    tell(
+        Request::ResetParameters,
+        slot,
+        slot.reset_set(),
+        msg,
+        answer,
+    )
 }

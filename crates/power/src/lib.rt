@@ -7,11 +7,12 @@ ghost use Rattle.words.specs.Bytes.{over};
 ghost use Rattle.words.specs.Bounds.{least_room};
 ghost use Rattle.chips.specs.Kinds.{facts};
 ghost use Rattle.sound.specs.Sound.{image_is_card};
-ghost use Rattle.faults.specs.Faults.{PowerOn, PowerOff, SlotStatus};
-ghost use Rattle.frame.specs.Exchange.{reset, reply, Gives};
+ghost use Rattle.faults.specs.declared.Request.TheVariants.{PowerOn, PowerOff, SlotStatus};
+ghost use Rattle.frame.specs.Answers.{answer_type};
+ghost use Rattle.frame.specs.Exchange.{reset, idle, deed, reply, Gives};
 
 use chips::Chip;
-use faults::{fault_of, is_clear};
+use faults::{Request, fault_of};
 use frame::{Reply, seal, seal_done};
 use slot::Slot;
 use words::put_two;
@@ -35,8 +36,8 @@ pub fn power_on(slot: Slot, image: &[u8], msg: &[u8], answer: &mut [u8]) -> Repl
     requires { (10 ≤ length msg.now) × (least_room ≤ length answer.old) × (image_is_card slot.holds image.now ≡ true) }
     ensures { Gives (reply PowerOn slot image.now msg.now) result image.now answer.old answer.new }
 {
-    let fault = fault_of(0x62, slot, msg);
-    if !is_clear(fault) {
+    let fault = fault_of(Request::PowerOn, slot, msg);
+    if fault.is_some() {
         return seal(0x80, fault, 0, slot, msg, answer);
     }
     let Some(chip) = slot.holds else {
@@ -47,17 +48,25 @@ pub fn power_on(slot: Slot, image: &[u8], msg: &[u8], answer: &mut [u8]) -> Repl
     seal_done(0x80, len, next, msg, answer)
 }
 
+// The answer 81h of a request without data: failed, and the slot as it was; else the next slot.
+fn quiet(request: Request, slot: Slot, next: Slot, msg: &[u8], answer: &mut [u8]) -> Reply
+    requires { (10 ≤ length msg.now) × (least_room ≤ length answer.old) }
+    ensures { (image : List ℕ) → answer_type request ≡ 0x81 → deed request slot.holds slot image msg.now ≡ idle next image
+        → Gives (reply request slot image msg.now) result image answer.old answer.new }
+{
+    let fault = fault_of(request, slot, msg);
+    if fault.is_some() {
+        return seal(0x81, fault, 0, slot, msg, answer);
+    }
+    seal_done(0x81, 0, next, msg, answer)
+}
+
 // 63h.
 pub fn power_off(slot: Slot, msg: &[u8], answer: &mut [u8]) -> Reply
     requires { (10 ≤ length msg.now) × (least_room ≤ length answer.old) }
     ensures { (image : List ℕ) → Gives (reply PowerOff slot image msg.now) result image answer.old answer.new }
 {
-    let fault = fault_of(0x63, slot, msg);
-    if !is_clear(fault) {
-        return seal(0x81, fault, 0, slot, msg, answer);
-    }
-    let next = slot.power(false);
-    seal_done(0x81, 0, next, msg, answer)
+    quiet(Request::PowerOff, slot, slot.power(false), msg, answer)
 }
 
 // 65h.
@@ -65,9 +74,5 @@ pub fn slot_status(slot: Slot, msg: &[u8], answer: &mut [u8]) -> Reply
     requires { (10 ≤ length msg.now) × (least_room ≤ length answer.old) }
     ensures { (image : List ℕ) → Gives (reply SlotStatus slot image msg.now) result image answer.old answer.new }
 {
-    let fault = fault_of(0x65, slot, msg);
-    if !is_clear(fault) {
-        return seal(0x81, fault, 0, slot, msg, answer);
-    }
-    seal_done(0x81, 0, slot, msg, answer)
+    quiet(Request::SlotStatus, slot, slot, msg, answer)
 }

@@ -25,7 +25,9 @@ use Rattle.record.proofs.Records.{flag_back}
 use Rattle.steps.specs.declared.Order.{Order}
 use Rattle.steps.specs.Steps.{order, body}
 use Rattle.orders.specs.Orders.{slot_by, performed, commanded}
-use Rattle.faults.specs.Faults.{Request, SetParameters, PowerOn, PowerOff, SlotStatus, GetParameters, ResetParameters, Transfer, Unsupported, apdu}
+use Rattle.faults.specs.declared.Request.{Request}
+use Rattle.faults.specs.declared.Request.TheVariants.{SetParameters, PowerOn, PowerOff, SlotStatus, GetParameters, ResetParameters, Transfer, Unsupported}
+use Rattle.faults.specs.Faults.{apdu}
 use Rattle.frame.specs.Exchange.{Outcome, deed, insertion}
 use Rattle.reader.specs.Runs.{Sent, Run, sending, run}
 use Rattle.reader.specs.Heard.{requested, heard, transfers}

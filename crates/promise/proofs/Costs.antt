@@ -20,7 +20,9 @@ use Rattle.steps.specs.declared.Status.{Status}
 use Rattle.steps.specs.declared.Order.{Order}
 use Rattle.steps.specs.Steps.{order, body, presents}
 use Rattle.steps.proofs.PresentAgain.{present_again}
-use Rattle.faults.specs.Faults.{Request, Transfer, apdu, ready, fault_of, is_clear}
+use Rattle.faults.specs.declared.Request.{Request}
+use Rattle.faults.specs.declared.Request.TheVariants.{Transfer}
+use Rattle.faults.specs.Faults.{apdu, ready, fault_of, is_clear}
 use Rattle.orders.specs.Orders.{performed, image_by, slot_by}
 use Rattle.frame.specs.Exchange.{Outcome}
 use Rattle.reader.specs.Runs.{Sent, sending, run}

@@ -36,7 +36,9 @@ use Rattle.steps.specs.Fits.{Fit}
 use Rattle.steps.proofs.Decisions.{order_fits}
 use Rattle.orders.specs.Orders.{image_by, performed, commanded}
 use Rattle.orders.proofs.ImageKept.{count_written, count_presented, count_changed}
-use Rattle.faults.specs.Faults.{Request, SetParameters, PowerOn, PowerOff, SlotStatus, GetParameters, ResetParameters, Transfer, Unsupported, apdu}
+use Rattle.faults.specs.declared.Request.{Request}
+use Rattle.faults.specs.declared.Request.TheVariants.{SetParameters, PowerOn, PowerOff, SlotStatus, GetParameters, ResetParameters, Transfer, Unsupported}
+use Rattle.faults.specs.Faults.{apdu}
 use Rattle.frame.specs.Exchange.{Outcome, deed, exchange, insertion}
 use Rattle.reader.specs.Runs.{Sent, Run, sending, run}
 use Rattle.reader.specs.Proper.{Proper}

@@ -20,8 +20,11 @@ use Rattle.slot.specs.Slots.{occupied, inserted, removed}
 use Rattle.steps.specs.Steps.{order, body}
 use Rattle.orders.specs.Orders.{performed, commanded}
 use Rattle.orders.proofs.SlotKept.{slot_by_set}
+use Rattle.std.specs.Prelude.{Option, None}
 use Rattle.faults.specs.declared.Fault.{Fault}
-use Rattle.faults.specs.Faults.{Request, SetParameters, PowerOn, PowerOff, SlotStatus, GetParameters, ResetParameters, Transfer, Unsupported, apdu, ready, bad_field}
+use Rattle.faults.specs.declared.Request.{Request}
+use Rattle.faults.specs.declared.Request.TheVariants.{SetParameters, PowerOn, PowerOff, SlotStatus, GetParameters, ResetParameters, Transfer, Unsupported}
+use Rattle.faults.specs.Faults.{apdu, ready, bad_field}
 use Rattle.frame.specs.Answers.{answer, byte9, b_status}
 use Rattle.frame.specs.Exchange.{Outcome, deed, answered, exchange, insertion}
 use Rattle.reader.specs.Runs.{Sent, Run, sending, run}
@@ -105,11 +108,11 @@ pub get_tells : (s : Slot) (image : List ℕ) (g : Sent) → requested g ≡ Get
     → (sending s image g).answer ≡ tells_set g.message s (protocol_of s.set) (bytes_of s.set)
 unfolding deed answer byte9 b_status ◌⇒◌⁏◌
 get_tells s image g e h =
-    let clear : faulted s g ≡ Fault.Clear = clear_is (faulted s g) (heard_clear s image g h) in
-    let done : Request → Fault → List ℕ = λ r f. (answered r g.message f (deed r s.holds s image g.message)).answer in
+    let clear : faulted s g ≡ None = clear_is (faulted s g) (heard_clear s image g h) in
+    let done : Request → Option Fault → List ℕ = λ r f. (answered r g.message f (deed r s.holds s image g.message)).answer in
     ap (λ (o : Outcome). o.answer) (heard_does s image g h)
     ∙ ap (done (requested g)) clear
-    ∙ ap (λ (r : Request). done r Fault.Clear) e
+    ∙ ap (λ (r : Request). done r None) e
 
 -- SetParameters stores what it names
 set_stored : (s : Slot) (image : List ℕ) (m : Sent) → requested m ≡ SetParameters → heard s image m ≡ true → (sending s image m).slot.set ≡ set_of m.message
@@ -126,7 +129,7 @@ pub took_told : (s : Slot) (image : List ℕ) (m : Sent) (ms : List Sent) (g : S
 took_told s image m ms g b e h l k n =
     let u = run (sending s image m).slot (sending s image m).image ms in
     let stands : u.slot.set ≡ set_of m.message = run_leaves (sending s image m).slot (sending s image m).image ms l ∙ set_stored s image m e h in
-    let field : bad_field SetParameters m.message ≡ 0 =
+    let field : bad_field SetParameters m.message ≡ None =
     ap (λ (r : Request). bad_field r m.message) (sym e) ∙ clear_field (requested m) s m.message (heard_clear s image m h) in
     get_tells u.slot u.image g k n
     ∙ ap₂ (tells_set g.message u.slot) (ap protocol_of stands ∙ named_protocol m.message b) (ap bytes_of stands ∙ named_bytes m.message b field)

@@ -21,7 +21,9 @@ use Rattle.steps.specs.Steps.{order, body}
 use Rattle.steps.proofs.Decisions.{order_fits}
 use Rattle.orders.specs.Orders.{performed, commanded}
 use Rattle.orders.proofs.ImageKept.{zeros_kept}
-use Rattle.faults.specs.Faults.{Request, SetParameters, PowerOn, PowerOff, SlotStatus, GetParameters, ResetParameters, Transfer, Unsupported, apdu}
+use Rattle.faults.specs.declared.Request.{Request}
+use Rattle.faults.specs.declared.Request.TheVariants.{SetParameters, PowerOn, PowerOff, SlotStatus, GetParameters, ResetParameters, Transfer, Unsupported}
+use Rattle.faults.specs.Faults.{apdu}
 use Rattle.frame.specs.Exchange.{Outcome, deed, insertion}
 use Rattle.reader.specs.Runs.{Sent, sending, run}
 use Rattle.reader.specs.Proper.{Proper}

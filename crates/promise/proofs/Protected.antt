@@ -18,7 +18,9 @@ use Rattle.record.specs.Raw.{raw_of}
 use Rattle.steps.specs.Steps.{order, body}
 use Rattle.orders.specs.Orders.{performed, commanded, carries_by}
 use Rattle.orders.proofs.ProtectedKept.{value_kept, protected_by}
-use Rattle.faults.specs.Faults.{Request, SetParameters, PowerOn, PowerOff, SlotStatus, GetParameters, ResetParameters, Transfer, Unsupported, apdu}
+use Rattle.faults.specs.declared.Request.{Request}
+use Rattle.faults.specs.declared.Request.TheVariants.{SetParameters, PowerOn, PowerOff, SlotStatus, GetParameters, ResetParameters, Transfer, Unsupported}
+use Rattle.faults.specs.Faults.{apdu}
 use Rattle.frame.specs.Exchange.{Outcome, deed}
 use Rattle.reader.specs.Runs.{Sent, sending, run}
 use Rattle.reader.specs.Heard.{requested, heard, transfers}

@@ -16,8 +16,11 @@ use Rattle.steps.specs.declared.Order.{Order}
 use Rattle.steps.specs.Steps.{order, body, presents}
 use Rattle.steps.proofs.PresentAgain.{presents_is}
 use Rattle.steps.proofs.Decisions.{order_fits}
+use Rattle.std.specs.Prelude.{Option, None}
 use Rattle.faults.specs.declared.Fault.{Fault}
-use Rattle.faults.specs.Faults.{Request, SetParameters, PowerOn, PowerOff, SlotStatus, GetParameters, ResetParameters, Transfer, Unsupported, apdu}
+use Rattle.faults.specs.declared.Request.{Request}
+use Rattle.faults.specs.declared.Request.TheVariants.{SetParameters, PowerOn, PowerOff, SlotStatus, GetParameters, ResetParameters, Transfer, Unsupported}
+use Rattle.faults.specs.Faults.{apdu}
 use Rattle.orders.specs.Orders.{performed, commanded}
 use Rattle.orders.proofs.ImageKept.{counter_kept}
 use Rattle.frame.specs.Exchange.{Outcome, deed, answered}
@@ -54,24 +57,24 @@ module _ (chip : Chip) (s : Slot) (image : List ℕ) (m : Sent) (holds : s.holds
 
   -- a transfer that is heard does what its order says
   pub transfer_does : heard s image m ≡ true → requested m ≡ Transfer
-      → sending s image m ≡ answered Transfer m.message Fault.Clear (performed (facts chip) s image (body apart) (order (facts chip) s apart))
+      → sending s image m ≡ answered Transfer m.message None (performed (facts chip) s image (body apart) (order (facts chip) s apart))
   unfolding deed commanded
   transfer_does h t =
-      let c : faulted s m ≡ Fault.Clear = clear_is (faulted s m) (heard_clear s image m h) in
+      let c : faulted s m ≡ None = clear_is (faulted s m) (heard_clear s image m h) in
       heard_does s image m h
-      ∙ ap (λ (f : Fault). answered (requested m) m.message f (deed (requested m) s.holds s image m.message)) c
-      ∙ ap (λ (r : Request). answered r m.message Fault.Clear (deed r s.holds s image m.message)) t
-      ∙ ap (λ (x : Option Chip). answered Transfer m.message Fault.Clear (deed Transfer x s image m.message)) holds
+      ∙ ap (λ (f : Option Fault). answered (requested m) m.message f (deed (requested m) s.holds s image m.message)) c
+      ∙ ap (λ (r : Request). answered r m.message None (deed r s.holds s image m.message)) t
+      ∙ ap (λ (x : Option Chip). answered Transfer m.message None (deed Transfer x s image m.message)) holds
 
   -- a code that reaches the card is presented
   pub reached_does : reached (facts chip) s image m ≡ true
-      → sending s image m ≡ answered Transfer m.message Fault.Clear (performed (facts chip) s image (body apart) Order.Present)
+      → sending s image m ≡ answered Transfer m.message None (performed (facts chip) s image (body apart) Order.Present)
   unfolding reached
   reached_does e =
       let t = and_true _ _ e in
       let u = and_true _ _ t.1 in
       transfer_does t.0 (transfers_is _ u.0)
-      ∙ ap (λ (o : Order). answered Transfer m.message Fault.Clear (performed (facts chip) s image (body apart) o)) (presents_is _ u.1)
+      ∙ ap (λ (o : Order). answered Transfer m.message None (performed (facts chip) s image (body apart) o)) (presents_is _ u.1)
 
   -- what no code reached the card by leaves the counter
   deed_keeps : (r : Request) → (facts chip).coded ≡ true → (transfers r ≡ true → presents (order (facts chip) s apart) ≡ false)

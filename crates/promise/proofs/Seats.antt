@@ -24,7 +24,9 @@ use Rattle.slot.specs.declared.Slot.{Slot}
 use Rattle.counts.specs.Counts.{tries_of, protected_of}
 use Rattle.sound.specs.Sound.{page_size}
 use Rattle.sound.proofs.SoundLaws.{Sound, default_sound, sound_whole}
-use Rattle.faults.specs.Faults.{Request, Transfer, type_byte, request_of, fault_of, is_clear}
+use Rattle.faults.specs.declared.Request.{Request}
+use Rattle.faults.specs.declared.Request.TheVariants.{Transfer}
+use Rattle.faults.specs.Faults.{type_byte, request_of, fault_of, is_clear}
 use Rattle.reader.specs.Heard.{heard, transfers}
 use Rattle.vectors.specs.Sessions.{selected_slot}
 use Rattle.promise.specs.Sequences.{sent_with}

@@ -29,8 +29,9 @@ use Rattle.steps.specs.Fits.{Fit}
 use Rattle.steps.proofs.Decisions.{order_fits}
 use Rattle.orders.specs.Orders.{done, unequal, reported, written_word, said_by, image_by, slot_by, performed}
 use Rattle.orders.proofs.ImageKept.{written_stores}
-use Rattle.faults.specs.declared.Fault.{Fault}
-use Rattle.faults.specs.Faults.{Transfer, apdu}
+use Rattle.std.specs.Prelude.{None}
+use Rattle.faults.specs.declared.Request.TheVariants.{Transfer}
+use Rattle.faults.specs.Faults.{apdu}
 use Rattle.frame.specs.Answers.{answer}
 use Rattle.frame.specs.Exchange.{Outcome, answered}
 use Rattle.reader.specs.Runs.{Sent, sending}
@@ -73,8 +74,8 @@ module _ (chip : Chip) (s : Slot) (image : List ℕ) (m : Sent) (at : ℕ) (hold
   b = sent_by m
 
   -- what comes of it
-  pub write_does : sending s image m ≡ answered Transfer m.message Fault.Clear (performed f s image b (Order.Write at))
-  write_does = transfer_does chip s image m holds w.is_heard w.asked ∙ ap (λ (o : Order). answered Transfer m.message Fault.Clear (performed f s image b o)) w.ends
+  pub write_does : sending s image m ≡ answered Transfer m.message None (performed f s image b (Order.Write at))
+  write_does = transfer_does chip s image m holds w.is_heard w.asked ∙ ap (λ (o : Order). answered Transfer m.message None (performed f s image b o)) w.ends
 
   pub write_card : IsCard f image
   write_card = proper_card chip s image holds (heard_proper s image m w.is_heard)
@@ -88,10 +89,10 @@ module _ (chip : Chip) (s : Slot) (image : List ℕ) (m : Sent) (at : ℕ) (hold
   message_stays = ap (λ (o : Outcome). o.slot) write_does
 
   -- "I2C always answers 90 00"
-  pub message_done : f.covered ≡ 0 → (sending s image m).answer ≡ answer Transfer m.message Fault.Clear s done
+  pub message_done : f.covered ≡ 0 → (sending s image m).answer ≡ answer Transfer m.message None s done
   unfolding performed said_by slot_by written_word
   message_done e =
-      ap (λ (o : Outcome). o.answer) write_does ∙ ap (answer Transfer m.message Fault.Clear s) (first _ _ (sym (or_taken _ (eq-eqb _ 0 e))))
+      ap (λ (o : Outcome). o.answer) write_does ∙ ap (answer Transfer m.message None s) (first _ _ (sym (or_taken _ (eq-eqb _ 0 e))))
 
   module _ (bits : 0 < f.covered) where
     abbrev after : List ℕ
@@ -130,7 +131,7 @@ module _ (chip : Chip) (s : Slot) (image : List ℕ) (m : Sent) (at : ℕ) (hold
     pub message_told : (sending s image m).answer ≡ word_told s m at (sending s image m).image
     unfolding performed said_by slot_by written_word
     message_told =
-        let says : Bool → List ℕ = λ t. answer Transfer m.message Fault.Clear s (t ⇒ done ⁏ unequal) in
+        let says : Bool → List ℕ = λ t. answer Transfer m.message None s (t ⇒ done ⁏ unequal) in
         ap (λ (o : Outcome). o.answer) write_does
         ∙ ap (λ (l : List ℕ). says (reported f l at b)) (written_stores f s image b (bitted chip bits).pageless s.page at)
         ∙ ap says (sym (or_passed (ne_eqb f.covered 0 (λ e. omega arith)) refl) ∙ ends)

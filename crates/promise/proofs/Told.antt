@@ -12,8 +12,9 @@ use Rattle.reads.specs.Reads.{counter_read}
 use Rattle.slot.specs.declared.Slot.{Slot}
 use Rattle.steps.specs.declared.Order.{Order}
 use Rattle.steps.specs.Steps.{order, body}
-use Rattle.faults.specs.declared.Fault.{Fault}
-use Rattle.faults.specs.Faults.{Transfer, apdu}
+use Rattle.std.specs.Prelude.{None}
+use Rattle.faults.specs.declared.Request.TheVariants.{Transfer}
+use Rattle.faults.specs.Faults.{apdu}
 use Rattle.orders.specs.Orders.{performed, said_by, image_by, slot_by}
 use Rattle.frame.specs.Answers.{answer}
 use Rattle.frame.specs.Exchange.{Outcome, answered}
@@ -24,22 +25,22 @@ use Rattle.promise.proofs.Reached.{transfer_does, reached_does}
 module _ (chip : Chip) (s : Slot) (image : List ℕ) (m : Sent) (holds : s.holds ≡ Some chip) where
   -- a code that reached the card is answered with 90 and the counter in the image afterwards
   pub code_told : reached (facts chip) s image m ≡ true
-      → (sending s image m).answer ≡ answer Transfer m.message Fault.Clear (sending s image m).slot (0x90 ∷ byte (sending s image m).image (facts chip).counter ∷ [])
+      → (sending s image m).answer ≡ answer Transfer m.message None (sending s image m).slot (0x90 ∷ byte (sending s image m).image (facts chip).counter ∷ [])
   unfolding performed said_by image_by
   code_told e =
-      subst⁻¹ (λ (o : Outcome). o.answer ≡ answer Transfer m.message Fault.Clear o.slot (0x90 ∷ byte o.image (facts chip).counter ∷ []))
+      subst⁻¹ (λ (o : Outcome). o.answer ≡ answer Transfer m.message None o.slot (0x90 ∷ byte o.image (facts chip).counter ∷ []))
       (reached_does chip s image m holds e) refl
 
   -- B1 reads the counter that stands in the image, and leaves it
   pub counter_told : (n : ℕ) → heard s image m ≡ true → requested m ≡ Transfer → order (facts chip) s (apdu m.message) ≡ Order.Counter n
-      → ((sending s image m).answer ≡ answer Transfer m.message Fault.Clear (sending s image m).slot
+      → ((sending s image m).answer ≡ answer Transfer m.message None (sending s image m).slot
       (byte image (facts chip).counter ∷ replicate (n - 1) 0 ++ (0x90 ∷ 0x00 ∷ [])))
       × ((sending s image m).image ≡ image)
   unfolding performed said_by image_by slot_by counter_read
   counter_told n h t e =
-      let p : sending s image m ≡ answered Transfer m.message Fault.Clear (performed (facts chip) s image (body (apdu m.message)) (Order.Counter n)) =
-      transfer_does chip s image m holds h t ∙ ap (λ (o : Order). answered Transfer m.message Fault.Clear (performed (facts chip) s image (body (apdu m.message)) o)) e in (
-        subst⁻¹ (λ (o : Outcome). o.answer ≡ answer Transfer m.message Fault.Clear o.slot
+      let p : sending s image m ≡ answered Transfer m.message None (performed (facts chip) s image (body (apdu m.message)) (Order.Counter n)) =
+      transfer_does chip s image m holds h t ∙ ap (λ (o : Order). answered Transfer m.message None (performed (facts chip) s image (body (apdu m.message)) o)) e in (
+        subst⁻¹ (λ (o : Outcome). o.answer ≡ answer Transfer m.message None o.slot
             (byte image (facts chip).counter ∷ replicate (n - 1) 0 ++ (0x90 ∷ 0x00 ∷ []))) p refl,
         ap (λ (o : Outcome). o.image) p,
       )

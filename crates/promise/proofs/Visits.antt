@@ -16,7 +16,8 @@ use Rattle.slot.specs.Slots.{removed, inserted}
 use Rattle.record.specs.Raw.{raw_of}
 use Rattle.steps.specs.declared.Order.{Order}
 use Rattle.steps.specs.Steps.{order}
-use Rattle.faults.specs.Faults.{Transfer, apdu}
+use Rattle.faults.specs.declared.Request.TheVariants.{Transfer}
+use Rattle.faults.specs.Faults.{apdu}
 use Rattle.reader.specs.Runs.{Sent, Run, sending}
 use Rattle.reader.specs.Heard.{requested, heard, reached}
 use Rattle.reader.specs.Rules.{rules}

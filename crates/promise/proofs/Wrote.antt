@@ -13,8 +13,8 @@ use Rattle.chips.specs.Kinds.{facts}
 use Rattle.slot.specs.Slots.{removed}
 use Rattle.pages.specs.Cuts.{Paged}
 use Rattle.orders.specs.Orders.{done}
-use Rattle.faults.specs.declared.Fault.{Fault}
-use Rattle.faults.specs.Faults.{Transfer}
+use Rattle.std.specs.Prelude.{None}
+use Rattle.faults.specs.declared.Request.TheVariants.{Transfer}
 use Rattle.frame.specs.Answers.{answer}
 use Rattle.reader.specs.Runs.{Sent, Run, sending}
 use Rattle.reader.specs.Rules.{rules}
@@ -92,7 +92,7 @@ in_i2c = came I2c1 (replicate 128 0xFF) (command 0x01 0x00 0x00 0x01 (0x04 ∷ [
 abbrev to_i2c : Sent
 to_i2c = write 0x00 0x00 0x10 (replicate 16 0x05)
 
-pub done_i2c : (sending in_i2c.slot in_i2c.image to_i2c).answer ≡ answer Transfer to_i2c.message Fault.Clear in_i2c.slot done
+pub done_i2c : (sending in_i2c.slot in_i2c.image to_i2c).answer ≡ answer Transfer to_i2c.message None in_i2c.slot done
 unfolding rules heard lent transfer
 done_i2c = message_done I2c1 in_i2c.slot in_i2c.image to_i2c 0 refl (record { is_heard = refl; asked = refl; ends = refl }) refl
 

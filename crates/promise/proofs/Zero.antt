@@ -20,7 +20,9 @@ use Rattle.steps.specs.Steps.{order, body, presents}
 use Rattle.steps.proofs.PresentAgain.{presents_is}
 use Rattle.sound.specs.Sound.{full_code}
 use Rattle.sound.proofs.SoundLaws.{Sound, sound_parts}
-use Rattle.faults.specs.Faults.{Request, SetParameters, PowerOn, PowerOff, SlotStatus, GetParameters, ResetParameters, Transfer, Unsupported, apdu}
+use Rattle.faults.specs.declared.Request.{Request}
+use Rattle.faults.specs.declared.Request.TheVariants.{SetParameters, PowerOn, PowerOff, SlotStatus, GetParameters, ResetParameters, Transfer, Unsupported}
+use Rattle.faults.specs.Faults.{apdu}
 use Rattle.orders.specs.Orders.{performed, commanded, image_by}
 use Rattle.orders.proofs.ImageKept.{shut_kept}
 use Rattle.frame.specs.Exchange.{Outcome, deed, insertion}

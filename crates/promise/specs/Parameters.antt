@@ -3,7 +3,9 @@ use Rattle.std.specs.Prelude.{ℕ, Bool, true, false, List, [], ◌∷◌, ◌++
 use Rattle.words.specs.Choice.{◌⇒◌⁏◌, ◌and◌}
 use Rattle.sets.specs.Sets.{default_set, set_of}
 use Rattle.slot.specs.declared.Slot.{Slot}
-use Rattle.faults.specs.Faults.{Request, SetParameters, PowerOn, PowerOff, SlotStatus, GetParameters, ResetParameters, Transfer, Unsupported, b_slot, b_seq}
+use Rattle.faults.specs.declared.Request.{Request}
+use Rattle.faults.specs.declared.Request.TheVariants.{SetParameters, PowerOn, PowerOff, SlotStatus, GetParameters, ResetParameters, Transfer, Unsupported}
+use Rattle.faults.specs.Faults.{b_slot, b_seq}
 use Rattle.frame.specs.Answers.{card_state, header}
 use Rattle.reader.specs.Runs.{Sent}
 use Rattle.reader.specs.Heard.{requested, heard}

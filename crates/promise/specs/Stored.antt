@@ -10,8 +10,9 @@ use Rattle.slot.specs.declared.Slot.{Slot}
 use Rattle.steps.specs.declared.Order.{Order}
 use Rattle.steps.specs.Steps.{order, body}
 use Rattle.orders.specs.Orders.{done, unequal}
-use Rattle.faults.specs.declared.Fault.{Fault}
-use Rattle.faults.specs.Faults.{Transfer, apdu}
+use Rattle.std.specs.Prelude.{None}
+use Rattle.faults.specs.declared.Request.TheVariants.{Transfer}
+use Rattle.faults.specs.Faults.{apdu}
 use Rattle.frame.specs.Answers.{answer}
 use Rattle.reader.specs.Runs.{Sent}
 use Rattle.reader.specs.Heard.{requested, heard}
@@ -47,4 +48,4 @@ pub record Stored (f : Facts) (image : List ℕ) (at : ℕ) (b now : List ℕ) :
 
 -- the whole answer to it: 90 00 where the range reads back in the image now, else 65 81
 abbrev pub word_told : Slot → Sent → ℕ → List ℕ → List ℕ
-word_told s m at now = answer Transfer m.message Fault.Clear s (reads_back now at (sent_by m) ⇒ done ⁏ unequal)
+word_told s m at now = answer Transfer m.message None s (reads_back now at (sent_by m) ⇒ done ⁏ unequal)

@@ -25,7 +25,10 @@ use Rattle.steps.proofs.Decisions.{order_fits}
 use Rattle.orders.specs.Orders.{performed, commanded, image_by, slot_by}
 use Rattle.orders.proofs.ImageKept.{card_kept}
 use Rattle.orders.proofs.SlotKept.{slot_by_holds, order_sound}
-use Rattle.faults.specs.Faults.{Request, SetParameters, PowerOn, PowerOff, SlotStatus, GetParameters, ResetParameters, Transfer, Unsupported, apdu, bad_field, ready, fault_of, is_clear}
+use Rattle.std.specs.Prelude.{None}
+use Rattle.faults.specs.declared.Request.{Request}
+use Rattle.faults.specs.declared.Request.TheVariants.{SetParameters, PowerOn, PowerOff, SlotStatus, GetParameters, ResetParameters, Transfer, Unsupported}
+use Rattle.faults.specs.Faults.{apdu, bad_field, ready, fault_of, is_clear}
 use Rattle.frame.specs.Exchange.{Outcome, deed, served, exchange, insertion}
 use Rattle.reader.specs.Runs.{Sent}
 use Rattle.reader.specs.Proper.{Proper}
@@ -102,7 +105,7 @@ changed_proper : (s t : Slot) (image : List ℕ) → t.holds ≡ s.holds → (So
 changed_proper s t image e f p =
     record { card = ap (λ (h : Option Chip). image_is_card h image) e ∙ p.card; sound = sound_whole _ _ (f (sound_parts s image p.sound)) }
 
-deed_proper : (r : Request) (h : Option Chip) (s : Slot) (image m : List ℕ) → s.holds ≡ h → bad_field r m ≡ 0 → ready r s ≡ true → Proper s image
+deed_proper : (r : Request) (h : Option Chip) (s : Slot) (image m : List ℕ) → s.holds ≡ h → bad_field r m ≡ None → ready r s ≡ true → Proper s image
     → Proper (deed r h s image m).slot (deed r h s image m).image
 unfolding deed commanded performed
 deed_proper SetParameters h s image m e k on p = changed_proper s _ image refl (set_sound_lem s image (set_of m) (named_taken m k) on) p

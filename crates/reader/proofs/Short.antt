@@ -21,8 +21,11 @@ use Rattle.steps.specs.Steps.{p3, body, order}
 use Rattle.steps.proofs.Decisions.{order_fits, order_short}
 use Rattle.orders.specs.Orders.{Deed, commanded, performed}
 use Rattle.orders.proofs.Lengths.{said_short}
+use Rattle.std.specs.Prelude.{Option}
 use Rattle.faults.specs.declared.Fault.{Fault}
-use Rattle.faults.specs.Faults.{Request, SetParameters, PowerOn, PowerOff, SlotStatus, GetParameters, ResetParameters, Transfer, Unsupported, apdu, type_byte, request_of, fault_of}
+use Rattle.faults.specs.declared.Request.{Request}
+use Rattle.faults.specs.declared.Request.TheVariants.{SetParameters, PowerOn, PowerOff, SlotStatus, GetParameters, ResetParameters, Transfer, Unsupported}
+use Rattle.faults.specs.Faults.{apdu, type_byte, request_of, fault_of}
 use Rattle.frame.specs.Answers.{header, answer}
 use Rattle.frame.specs.Exchange.{Outcome, reset, deed, replied, reply, served, exchange}
 use Rattle.chips.specs.declared.Chip.{Chip}
@@ -47,7 +50,7 @@ module _ (s : Slot) (image m : List ℕ) (byte : p3 (apdu m) < 256) where
       (order_fits (facts chip) s (apdu m)) (order_short (facts chip) s (apdu m) byte)
   deed_short Unsupported h e = omega arith
 
-  answer_whole : (r : Request) (f : Fault) (t : Slot) (said : List ℕ) → length said ≤ 257 → length (answer r m f t said) ≤ longest_answer
+  answer_whole : (r : Request) (f : Option Fault) (t : Slot) (said : List ℕ) → length said ≤ 257 → length (answer r m f t said) ≤ longest_answer
   unfolding answer header four_bytes
   answer_whole r f t said h = omega arith
 

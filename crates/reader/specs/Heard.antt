@@ -6,8 +6,10 @@ use Rattle.chips.specs.declared.Facts.{Facts}
 use Rattle.slot.specs.declared.Slot.{Slot}
 use Rattle.sound.specs.Sound.{image_is_card, sound}
 use Rattle.steps.specs.Steps.{order, presents}
+use Rattle.std.specs.Prelude.{Option}
 use Rattle.faults.specs.declared.Fault.{Fault}
-use Rattle.faults.specs.Faults.{Request, SetParameters, PowerOn, PowerOff, SlotStatus, GetParameters, ResetParameters, Transfer, Unsupported}
+use Rattle.faults.specs.declared.Request.{Request}
+use Rattle.faults.specs.declared.Request.TheVariants.{SetParameters, PowerOn, PowerOff, SlotStatus, GetParameters, ResetParameters, Transfer, Unsupported}
 use Rattle.faults.specs.Faults.{type_byte, apdu, request_of, fault_of, is_clear}
 use Rattle.reader.specs.Runs.{Sent}
 
@@ -15,7 +17,7 @@ use Rattle.reader.specs.Runs.{Sent}
 abbrev pub requested : Sent → Request
 requested m = request_of (type_byte m.message)
 
-abbrev pub faulted : Slot → Sent → Fault
+abbrev pub faulted : Slot → Sent → Option Fault
 faulted s m = fault_of (requested m) s m.message
 
 -- the message is answered (tests 1 to 4), and has no fault

@@ -7,6 +7,8 @@ use mathlib.Core.List.{List, ◌∷◌}
 use native.Mathlib.Nat.{mod-eq_of_lt}
 use native.Mathlib.Omega.{arith}
 use lib.ListN.{length, drop, get_or-eq_default}
+use Rattle.std.specs.Prelude.{Option, None, is_none}
+use Rattle.std.proofs.lemmas.Option.{none-some}
 use borrow.Author.Tests.{eq-eqb, ne_eqb, eqb-true, not-false}
 use Rattle.words.specs.Choice.{◌⇒◌⁏◌, ◌and◌, ◌or◌, ◌is◌}
 use Rattle.words.specs.Bytes.{AllBytes, byte, number_in, byte_of, series}
@@ -69,18 +71,18 @@ named_length m e = go (or_true _ _ e)
         rest _ _ (sym (and_fails _ (ne_eqb (protocol_of (set_of m)) 0 (λ z. omega (arith, p, z))))) ∙ sym (eqb-true _ _ u.1)
 
 -- so 61h would take what it took
-record Fits (t n : ℕ) (at : ℕ) : Type 0 where
-  fits : at ≡ 0 → fits_length (protocol_of t) n ≡ true
+record Fits (t n : ℕ) (at : Option ℕ) : Type 0 where
+  fits : at ≡ None → fits_length (protocol_of t) n ≡ true
 
 fault_fits : (t n : ℕ) → Fits t n (fault_at t n)
 unfolding fault_at
 fault_fits t n =
-    either (Fits t n) (not (fits_length (protocol_of t) n)) (λ _. record { fits = λ e. absurd (omega arith) }) (λ h. record { fits = λ _. not-false _ h })
+    either (Fits t n) (not (fits_length (protocol_of t) n)) (λ _. record { fits = λ e. absurd (none-some _ (sym e)) }) (λ h. record { fits = λ _. not-false _ h })
 
-pub named_taken : (m : List ℕ) → fault_at (set_of m) (length m - 10) ≡ 0 → takes (set_of m) ≡ true
+pub named_taken : (m : List ℕ) → fault_at (set_of m) (length m - 10) ≡ None → takes (set_of m) ≡ true
 unfolding takes
 named_taken m e =
-    eq-eqb _ 0 (ap (fault_at (set_of m)) (named_length m ((fault_fits (set_of m) (length m - 10)).fits e)) ∙ e)
+    ap is_none (ap (fault_at (set_of m)) (named_length m ((fault_fits (set_of m) (length m - 10)).fits e)) ∙ e)
 
 -- a message of bytes names its protocol number and its bytes, all of them
 pub named_protocol : (m : List ℕ) → AllBytes m → protocol_of (set_of m) ≡ byte m 7
@@ -96,7 +98,7 @@ named_byte m b j h =
     ∙ ap (λ (x : ℕ). x % 256) (series_at (byte m) 10 7 j h)
     ∙ mod-eq_of_lt (b.fits (10 + j))
 
-pub named_bytes : (m : List ℕ) → AllBytes m → fault_at (set_of m) (length m - 10) ≡ 0 → bytes_of (set_of m) ≡ drop 10 m
+pub named_bytes : (m : List ℕ) → AllBytes m → fault_at (set_of m) (length m - 10) ≡ None → bytes_of (set_of m) ≡ drop 10 m
 named_bytes m b e =
     let n : length_of (set_of m) ≡ length m - 10 = named_length m ((fault_fits (set_of m) (length m - 10)).fits e) in
     ap (series (byte_of (set_of m)) 1) n

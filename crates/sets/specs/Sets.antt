@@ -1,6 +1,6 @@
 -- Slot parameters: "T=0 has 5 bytes, T=1 has 7, in the layouts of source documents 002 and 004".
 -- A set is one number, low byte first: the protocol number, then the bytes of the layouts in their order. The two that T=0 lacks are 00h.
-use Rattle.std.specs.Prelude.{ℕ, ◌/◌, ◌%◌, Bool, not, List, [], ◌∷◌, ltb, leb}
+use Rattle.std.specs.Prelude.{ℕ, ◌/◌, ◌%◌, Bool, not, Option, Some, None, is_none, List, [], ◌∷◌, ltb, leb}
 use Rattle.words.specs.Choice.{◌⇒◌⁏◌, ◌and◌, ◌or◌, ◌is◌, ◌isnt◌}
 use Rattle.words.specs.Bytes.{byte, number_in, byte_of, series}
 
@@ -68,17 +68,17 @@ unfoldable pub long_wait : ℕ → ℕ → Bool
 long_wait protocol wait = protocol is 1 and ltb 9 (wait / 16)
 
 -- "a protocol number not fitting the length is 07h, then byte offsets 10, 11, 13, 14, 16 in turn give their own offset": the offset of the
--- first byte that is wrong in a SetParameters message of this set and data length, 0 where none is
-unfoldable pub fault_at : ℕ → ℕ → ℕ
+-- first byte that is wrong in a SetParameters message of this set and data length
+unfoldable pub fault_at : ℕ → ℕ → Option ℕ
 fault_at set n =
-    not (fits_length (protocol_of set) n) ⇒ 7
-    ⁏ reserved_fi (factors set / 16) ⇒ 10
-    ⁏ reserved_di (factors set % 16) ⇒ 10
-    ⁏ checksum set / 4 isnt upper_bits (protocol_of set) ⇒ 11
-    ⁏ long_wait (protocol_of set) (waiting set) ⇒ 13
-    ⁏ ltb 3 (clock_stop set) ⇒ 14
-    ⁏ nad set isnt 0 ⇒ 16
-    ⁏ 0
+    not (fits_length (protocol_of set) n) ⇒ Some 7
+    ⁏ reserved_fi (factors set / 16) ⇒ Some 10
+    ⁏ reserved_di (factors set % 16) ⇒ Some 10
+    ⁏ checksum set / 4 isnt upper_bits (protocol_of set) ⇒ Some 11
+    ⁏ long_wait (protocol_of set) (waiting set) ⇒ Some 13
+    ⁏ ltb 3 (clock_stop set) ⇒ Some 14
+    ⁏ nad set isnt 0 ⇒ Some 16
+    ⁏ None
 
 -- the set that a SetParameters message names: bProtocolNum at offset 7, the bytes from offset 10 on
 unfoldable pub set_of : List ℕ → ℕ
@@ -86,4 +86,4 @@ set_of m = set_with (byte m 7) (series (byte m) 10 7)
 
 -- "61h would not take the stored set": it is asked as a message of its own length
 unfoldable pub takes : ℕ → Bool
-takes set = fault_at set (length_of set) is 0
+takes set = is_none (fault_at set (length_of set))

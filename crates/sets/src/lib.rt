@@ -73,13 +73,11 @@ pub fn put_set(set: usize, out: &mut [u8]) -> usize
 fn fits_length(protocol: u8, n: usize) -> bool
     ensures { result ≡ fits_length protocol n }
 {
-    if protocol == 0 {
-        return n == 5;
+    match protocol {
+        0 => n == 5,
+        1 => n == 7,
+        2..=0xFF => false,
     }
-    if protocol == 1 {
-        return n == 7;
-    }
-    false
 }
 
 // An entry that is reserved: one of two, or any from the last on.
@@ -100,44 +98,42 @@ fn upper_bits(protocol: u8) -> u8
 fn long_wait(protocol: u8, waiting: u8) -> bool
     ensures { result ≡ long_wait protocol waiting }
 {
-    if protocol != 1 {
-        return false;
-    }
-    9 < waiting / 16
+    protocol == 1 && 9 < waiting / 16
 }
 
-// The offset of the first byte that is wrong in a SetParameters message of this set and data length; 0 where none is.
-pub fn fault_at(set: usize, n: usize) -> u8
+// The offset of the first byte that is wrong in a SetParameters message of this set and data length.
+pub fn fault_at(set: usize, n: usize) -> Option<u8>
     ensures { result ≡ fault_at set n }
 {
     let protocol = byte_of(set, 0);
     if !fits_length(protocol, n) {
-        return 7;
+        return Some(7);
     }
     if reserved(byte_of(set, 1) / 16, 7, 8, 14) {
-        return 10;
+        return Some(10);
     }
     if reserved(byte_of(set, 1) % 16, 0, 7, 10) {
-        return 10;
+        return Some(10);
     }
     if byte_of(set, 2) / 4 != upper_bits(protocol) {
-        return 11;
+        return Some(11);
     }
     if long_wait(protocol, byte_of(set, 4)) {
-        return 13;
+        return Some(13);
     }
     if 3 < byte_of(set, 5) {
-        return 14;
+        return Some(14);
     }
     if byte_of(set, 7) != 0 {
-        return 16;
+        return Some(16);
     }
-    0
+    None
 }
 
 // Whether SetParameters would take a set that is stored.
+#[tactic(auto, unfolding(crate::specs::Sets::takes))]
 pub fn is_taken(set: usize) -> bool
     ensures { result ≡ takes set }
 {
-    fault_at(set, length_of(set)) == 0
+    fault_at(set, length_of(set)).is_none()
 }

@@ -17,8 +17,11 @@ use Rattle.chips.specs.declared.Facts.{Facts}
 use Rattle.chips.specs.Kinds.{facts}
 use Rattle.slot.specs.declared.Slot.{Slot}
 use Rattle.record.specs.Raw.{kind_of}
+use Rattle.std.specs.Prelude.{Option, None}
 use Rattle.faults.specs.declared.Fault.{Fault}
-use Rattle.faults.specs.Faults.{Request, Transfer, apdu}
+use Rattle.faults.specs.declared.Request.{Request}
+use Rattle.faults.specs.declared.Request.TheVariants.{Transfer}
+use Rattle.faults.specs.Faults.{apdu}
 use Rattle.orders.specs.Orders.{Deed, commanded}
 use Rattle.frame.specs.declared.Reply.{Reply}
 use Rattle.frame.specs.Answers.{header, answer}
@@ -81,18 +84,18 @@ met_each (o ∷ os) (p ∷ ps) (c ∷ cs) g h = both (met_alike o p c.reply c.le
 
 -- ---- a command
 -- what is said is read back from the answer: it stands behind the ten bytes of the header
-said_of : (r : Request) (m : List ℕ) (f : Fault) (s : Slot) (said : List ℕ) → drop 10 (answer r m f s said) ≡ said
+said_of : (r : Request) (m : List ℕ) (f : Option Fault) (s : Slot) (said : List ℕ) → drop 10 (answer r m f s said) ≡ said
 unfolding answer header four_bytes
 said_of r m f s said = refl
 
 -- deeds that one reply, image and buffer tell of are alike
-deeds_alike : (m : List ℕ) (d e : Deed) (r : Reply) (left was holds : List ℕ) → Gives (answered Transfer m Fault.Clear d) r left was holds
-    → Gives (answered Transfer m Fault.Clear e) r left was holds → like_deed d e ≡ true
+deeds_alike : (m : List ℕ) (d e : Deed) (r : Reply) (left was holds : List ℕ) → Gives (answered Transfer m None d) r left was holds
+    → Gives (answered Transfer m None e) r left was holds → like_deed d e ≡ true
 unfolding like_deed
 deeds_alike m d e r left was holds g h =
-    let told : (x : Deed) → List ℕ = λ x. answer Transfer m Fault.Clear x.slot x.said in
+    let told : (x : Deed) → List ℕ = λ x. answer Transfer m None x.slot x.said in
     let same-told : told d ≡ told e = answer_met (told d) (told e) was (sym g.len ∙ h.len) (sym g.buffer ∙ h.buffer) in
-    both (same_of (sym (said_of Transfer m Fault.Clear d.slot d.said) ∙ ap (drop 10) same-told ∙ said_of Transfer m Fault.Clear e.slot e.said))
+    both (same_of (sym (said_of Transfer m None d.slot d.said) ∙ ap (drop 10) same-told ∙ said_of Transfer m None e.slot e.said))
     (both (like_slot_lem (sym g.slot ∙ h.slot)) (same_of (sym g.image ∙ h.image)))
 
 command_refuted : (w : Doer) (chip : Chip) (chosen : Bool) (page : ℕ) (m : List ℕ) → Seated chip chosen page m

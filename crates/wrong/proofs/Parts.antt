@@ -10,7 +10,7 @@ use borrow.Author.Tests.{eqb-true, not-true, not-false}
 use Rattle.std.specs.Prelude.{Option, Some, None}
 use Rattle.words.specs.Choice.{◌⇒◌⁏◌, ◌and◌, ◌or◌, ◌is◌, ◌isnt◌}
 use Rattle.words.specs.Bytes.{byte, same}
-use Rattle.words.proofs.Choices.{either, past, first, rest, and_true, same_choice, never, no_test}
+use Rattle.words.proofs.Choices.{either, past, rest, and_true, same_choice, never, no_test}
 use Rattle.chips.specs.declared.Chip.{Chip}
 use Rattle.chips.specs.declared.Facts.{Facts}
 use Rattle.chips.specs.Kinds.{facts, chip_of}
@@ -24,8 +24,11 @@ use Rattle.steps.specs.Steps.{Ins, ins_of, p1p2, p3, body, meant, top, ordered, 
 use Rattle.steps.proofs.Decisions.{Decided, refused, through, decided, placed}
 use Rattle.stores.specs.Stores.{storing}
 use Rattle.sound.specs.Sound.{image_is_card, sound}
+use Rattle.std.specs.Prelude.{Option, Some, None, is_some, option_map}
 use Rattle.faults.specs.declared.Fault.{Fault}
-use Rattle.faults.specs.Faults.{Request, SetParameters, Transfer, type_byte, dw_length, b_slot, apdu, request_of, data_fits, bad_field, ready, fault_of}
+use Rattle.faults.specs.declared.Request.{Request}
+use Rattle.faults.specs.declared.Request.TheVariants.{SetParameters, Transfer}
+use Rattle.faults.specs.Faults.{type_byte, dw_length, b_slot, apdu, request_of, data_fits, ready, fault_of}
 use Rattle.orders.specs.Orders.{Deed, done, unequal, reported, written, written_word, said_by, image_by, slot_by, performed, commanded}
 use Rattle.frame.specs.declared.Refusal.{Refusal}
 use Rattle.frame.specs.Exchange.{served, Outcome, turned_down, answered, replied, reply, exchange, inserted_as, insertion}
@@ -74,12 +77,12 @@ faulting_ours s i m room = go (tested s i m room)
 
 -- where the byte that is wrong is the rules', so is the fault
 module _ (s : Slot) (m : List ℕ) where
-  abbrev late : Request → Fault
+  abbrev late : Request → Option Fault
   late r =
       let at = fault_at (set_of m) (length m - 10) in
-      at isnt 0 ⇒ Fault.Field at ⁏ not (ready r s) ⇒ Fault.Card ⁏ Fault.Clear
+      is_some at ⇒ option_map Fault.Field at ⁏ not (ready r s) ⇒ Some Fault.Card ⁏ None
 
-  abbrev Found : Fault → Type 0
+  abbrev Found : Option Fault → Type 0
   Found f = (early f ⇒ f ⁏ late SetParameters) ≡ f
 
   found_set : Found (fault_of SetParameters s m)
@@ -87,11 +90,9 @@ module _ (s : Slot) (m : List ℕ) where
   found_set =
       past Found (dw_length m isnt (length m - 10)) refl (λ _.
       past Found (not (data_fits SetParameters (dw_length m))) refl (λ _.
-      past Found (b_slot m isnt 0) refl (λ _.
-      either Found (bad_field SetParameters m isnt 0) (λ e. first _ _ e) (λ e.
-      either Found (not (ready SetParameters s)) (λ c. rest _ _ e ∙ first _ _ c) (λ c. rest _ _ e ∙ rest _ _ c)))))
+      past Found (b_slot m isnt 0) refl (λ _. same_choice (early (late SetParameters)) refl)))
 
-  abbrev chosen : Bool → Request → Fault
+  abbrev chosen : Bool → Request → Option Fault
   chosen b r = b or early (fault_of r s m) ⇒ fault_of r s m ⁏ late r
 
   found_fault : (b : Bool) → type_byte m isnt 0x61 ≡ b → chosen b (request_of (type_byte m)) ≡ fault_of (request_of (type_byte m)) s m
@@ -103,7 +104,7 @@ module _ (s : Slot) (m : List ℕ) where
 pub fielding_ours : Ours (fielding fault_at)
 unfolding fielding faulting
 fielding_ours s i m room =
-    ap (λ (f : Fault). (exchange s i m room).number is 0 ⇒ replied (request_of (type_byte m)) f s i m ⁏ exchange s i m room)
+    ap (λ (f : Option Fault). (exchange s i m room).number is 0 ⇒ replied (request_of (type_byte m)) f s i m ⁏ exchange s i m room)
     (found_fault s m (type_byte m isnt 0x61) refl)
     ∙ faulting_ours s i m room
 
@@ -156,7 +157,7 @@ commanding_on_lem (Some chip) does s i m room h e =
     either (λ (o : Outcome). o ≡ exchange s i m room) _
     (λ c.
     let t = and_true _ _ c in
-    ap (answered Transfer m Fault.Clear) (e (facts chip) (apdu m)) ∙ sym (transfer_does chip s i (sent_with m room) h t.0 (transfers_is _ t.1)))
+    ap (answered Transfer m None) (e (facts chip) (apdu m)) ∙ sym (transfer_does chip s i (sent_with m room) h t.0 (transfers_is _ t.1)))
     (λ _. refl)
 
 pub commanding_ours : (does : Facts → Slot → List ℕ → List ℕ → Deed)

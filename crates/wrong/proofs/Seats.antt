@@ -12,8 +12,9 @@ use Rattle.words.proofs.Choices.{first, both, and_true}
 use Rattle.chips.specs.declared.Chip.{Chip}
 use Rattle.chips.specs.Kinds.{facts}
 use Rattle.sound.specs.Sound.{page_size}
-use Rattle.faults.specs.declared.Fault.{Fault}
-use Rattle.faults.specs.Faults.{Transfer, type_byte, apdu, request_of, fault_of, is_clear}
+use Rattle.std.specs.Prelude.{None}
+use Rattle.faults.specs.declared.Request.TheVariants.{Transfer}
+use Rattle.faults.specs.Faults.{type_byte, apdu, request_of, fault_of, is_clear}
 use Rattle.orders.specs.Orders.{commanded}
 use Rattle.frame.specs.Exchange.{answered, exchange}
 use Rattle.reader.specs.Heard.{transfers}
@@ -50,7 +51,7 @@ seats_parts chip chosen page m e =
 
 module _ (chip : Chip) (chosen : Bool) (page : ℕ) (m : List ℕ) (c : Seated chip chosen page m) where
   pub seat_ours : exchange (seated chip chosen page) (seat_image chip) m least_room
-      ≡ answered Transfer m Fault.Clear (commanded (facts chip) (seated chip chosen page) (seat_image chip) (apdu m))
+      ≡ answered Transfer m None (commanded (facts chip) (seated chip chosen page) (seat_image chip) (apdu m))
   unfolding selected_slot commanded
   seat_ours =
       transfer_does chip (seated chip chosen page) (seat_image chip) (sent_with m least_room) refl
@@ -58,6 +59,6 @@ module _ (chip : Chip) (chosen : Bool) (page : ℕ) (m : List ℕ) (c : Seated c
       (seat_transfer chip c.some chosen page c.sized m c.header c.asked c.clear)
 
   pub seat_does : (does : Doer) → commanding does (seated chip chosen page) (seat_image chip) m least_room
-      ≡ answered Transfer m Fault.Clear (does (facts chip) (seated chip chosen page) (seat_image chip) (apdu m))
+      ≡ answered Transfer m None (does (facts chip) (seated chip chosen page) (seat_image chip) (apdu m))
   unfolding selected_slot commanding_on
   seat_does does = first _ _ (both (seat_heard chip c.some chosen page c.sized m c.header c.asked c.clear) c.asked)

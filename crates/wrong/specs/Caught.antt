@@ -13,7 +13,8 @@ use Rattle.slot.specs.Slots.{removed}
 use Rattle.record.specs.Raw.{kind_of}
 use Rattle.sound.specs.Sound.{page_size}
 use Rattle.orders.specs.Orders.{Deed, commanded}
-use Rattle.faults.specs.Faults.{Transfer, type_byte, apdu, request_of, fault_of, is_clear}
+use Rattle.faults.specs.declared.Request.TheVariants.{Transfer}
+use Rattle.faults.specs.Faults.{type_byte, apdu, request_of, fault_of, is_clear}
 use Rattle.frame.specs.declared.Reply.{Reply}
 use Rattle.frame.specs.Exchange.{Outcome, Gives, exchange, insertion}
 use Rattle.reader.specs.Runs.{run}

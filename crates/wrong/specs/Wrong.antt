@@ -14,8 +14,11 @@ use Rattle.steps.specs.declared.Ranged.{Ranged}
 use Rattle.steps.specs.declared.Order.{Order}
 use Rattle.steps.specs.Steps.{Ins, word_of, ins_of, p1p2, p3, body, meant, top, place_of, ordered, steps, order}
 use Rattle.sound.specs.Sound.{sound}
+use Rattle.std.specs.Prelude.{Option, Some, None, is_some, option_map}
 use Rattle.faults.specs.declared.Fault.{Fault}
-use Rattle.faults.specs.Faults.{Request, Transfer, type_byte, apdu, request_of, ready, fault_of}
+use Rattle.faults.specs.declared.Request.{Request}
+use Rattle.faults.specs.declared.Request.TheVariants.{Transfer}
+use Rattle.faults.specs.Faults.{type_byte, apdu, request_of, ready, fault_of}
 use Rattle.orders.specs.Orders.{Deed, performed, commanded}
 use Rattle.frame.specs.declared.Refusal.{Refusal}
 use Rattle.frame.specs.Exchange.{Outcome, turned_down, answered, replied, reply, exchange, insertion}
@@ -116,30 +119,30 @@ vetting passes s image m room =
     ⁏ o
 
 -- the fault of a message is found by `fault`
-unfoldable pub faulting : (Request → Slot → List ℕ → Fault) → Reader
+unfoldable pub faulting : (Request → Slot → List ℕ → Option Fault) → Reader
 faulting fault s image m room =
     let o = exchange s image m room in
     o.number is 0 ⇒ replied (request_of (type_byte m)) (fault (request_of (type_byte m)) s m) s image m
     ⁏ o
 
 -- a fault that is found before the fields of a message are looked at
-abbrev pub early : Fault → Bool
-early Fault.Clear = false
-early Fault.Unknown = true
-early Fault.Length = true
-early Fault.OtherSlot = true
-early (Fault.Field at) = false
-early Fault.Card = false
+abbrev pub early : Option Fault → Bool
+early None = false
+early (Some Fault.Unknown) = true
+early (Some Fault.Length) = true
+early (Some Fault.OtherSlot) = true
+early (Some (Fault.Field at)) = false
+early (Some Fault.Card) = false
 
 -- the byte of a SetParameters message that is wrong is found by `finds`, of its set and the length of its data
-unfoldable pub fielding : (ℕ → ℕ → ℕ) → Reader
+unfoldable pub fielding : (ℕ → ℕ → Option ℕ) → Reader
 fielding finds = faulting λ r s m.
     let f = fault_of r s m in
     let at = finds (set_of m) (length m - 10) in
     type_byte m isnt 0x61 or early f ⇒ f
-    ⁏ at isnt 0 ⇒ Fault.Field at
-    ⁏ not (ready r s) ⇒ Fault.Card
-    ⁏ Fault.Clear
+    ⁏ is_some at ⇒ option_map Fault.Field at
+    ⁏ not (ready r s) ⇒ Some Fault.Card
+    ⁏ None
 
 -- a message of a type that succeeded has something else come of it
 unfoldable pub upon : ℕ → (Slot → List ℕ → Outcome → Outcome) → Reader
@@ -152,7 +155,7 @@ upon type change s image m room =
 unfoldable pub commanding_on : Option Chip → Doer → Reader
 commanding_on None does s image m room = exchange s image m room
 commanding_on (Some chip) does s image m room =
-    heard s image (sent_with m room) and transfers (requested (sent_with m room)) ⇒ answered Transfer m Fault.Clear (does (facts chip) s image (apdu m))
+    heard s image (sent_with m room) and transfers (requested (sent_with m room)) ⇒ answered Transfer m None (does (facts chip) s image (apdu m))
     ⁏ exchange s image m room
 
 abbrev pub commanding : Doer → Reader

@@ -6,6 +6,7 @@ use Rattle.words.specs.Choice.{◌⇒◌⁏◌, ◌and◌, ◌or◌, ◌is◌, �
 use Rattle.words.specs.Bytes.{byte, four_bytes}
 use Rattle.chips.specs.declared.Facts.{Facts}
 use Rattle.slot.specs.Slots.{occupied, powered, type_as, page_as, opened, closed}
+use Rattle.std.specs.Prelude.{Some, None, is_some, unwrap_or, option_map}
 use Rattle.faults.specs.declared.Fault.{Fault}
 use Rattle.faults.specs.Faults.{type_byte, dw_length, b_slot, supported, bad_field, ready, is_clear, fault_of}
 use Rattle.frame.specs.Answers.{b_error}
@@ -45,7 +46,7 @@ takes262 = faulting λ r s m. fault_of r s (dw_length m is 262 and length m is 2
 
 -- takes no data of 261 bytes
 abbrev pub refuses261 : Reader
-refuses261 = faulting λ r s m. supported r and dw_length m is 261 ⇒ Fault.Length ⁏ fault_of r s m
+refuses261 = faulting λ r s m. supported r and dw_length m is 261 ⇒ Some Fault.Length ⁏ fault_of r s m
 
 -- passes over data behind this type
 abbrev pub passes_data : ℕ → Reader
@@ -79,7 +80,7 @@ any_power = faulting λ r s m. fault_of r s (set m 7 0)
 
 -- looks at byte 7 of this type as if it were bPowerSelect
 abbrev pub power_in : ℕ → Reader
-power_in type = faulting λ r s m. type_byte m is type and is_clear (fault_of r s m) and ltb 3 (byte m 7) ⇒ Fault.Field 7 ⁏ fault_of r s m
+power_in type = faulting λ r s m. type_byte m is type and is_clear (fault_of r s m) and ltb 3 (byte m 7) ⇒ Some (Fault.Field 7) ⁏ fault_of r s m
 
 -- looks at the high byte of wLevelParameter alone
 abbrev pub high_level_alone : Reader
@@ -92,25 +93,25 @@ low_level_alone = faulting λ r s m. fault_of r s (set m 9 0)
 -- looks at bytes 8 and 9 of this type as if they were wLevelParameter
 abbrev pub level_in : ℕ → Reader
 level_in type = faulting λ r s m.
-    type_byte m is type and is_clear (fault_of r s m) and (byte m 8 isnt 0 or byte m 9 isnt 0) ⇒ Fault.Field 8
+    type_byte m is type and is_clear (fault_of r s m) and (byte m 8 isnt 0 or byte m 9 isnt 0) ⇒ Some (Fault.Field 8)
     ⁏ fault_of r s m
 
 -- ---- fault 5
 -- powers on without a card
 abbrev pub powers_nothing : Reader
-powers_nothing = faulting λ r s m. type_byte m is 0x62 and b_error (fault_of r s m) is 0xFE ⇒ Fault.Clear ⁏ fault_of r s m
+powers_nothing = faulting λ r s m. type_byte m is 0x62 and b_error (fault_of r s m) is 0xFE ⇒ None ⁏ fault_of r s m
 
 -- powers on only a card that is active
 abbrev pub powers_active : Reader
-powers_active = faulting λ r s m. type_byte m is 0x62 and is_clear (fault_of r s m) and not s.active ⇒ Fault.Card ⁏ fault_of r s m
+powers_active = faulting λ r s m. type_byte m is 0x62 and is_clear (fault_of r s m) and not s.active ⇒ Some Fault.Card ⁏ fault_of r s m
 
 -- powers on only a card that is inactive
 abbrev pub powers_once : Reader
-powers_once = faulting λ r s m. type_byte m is 0x62 and is_clear (fault_of r s m) and s.active ⇒ Fault.Card ⁏ fault_of r s m
+powers_once = faulting λ r s m. type_byte m is 0x62 and is_clear (fault_of r s m) and s.active ⇒ Some Fault.Card ⁏ fault_of r s m
 
 -- does a transfer with a card that is inactive
 abbrev pub transfers_idle : Reader
-transfers_idle = faulting λ r s m. b_error (fault_of r s m) is 0xFE and occupied s.holds ⇒ Fault.Clear ⁏ fault_of r s m
+transfers_idle = faulting λ r s m. b_error (fault_of r s m) is 0xFE and occupied s.holds ⇒ None ⁏ fault_of r s m
 
 -- powers an inactive card on by itself for a transfer
 abbrev pub transfer_wakes : Reader
@@ -121,25 +122,25 @@ transfer_wakes s image m room =
 
 -- fails this type without a card
 abbrev pub needs_card : ℕ → Reader
-needs_card type = faulting λ r s m. type_byte m is type and is_clear (fault_of r s m) and not (occupied s.holds) ⇒ Fault.Card ⁏ fault_of r s m
+needs_card type = faulting λ r s m. type_byte m is type and is_clear (fault_of r s m) and not (occupied s.holds) ⇒ Some Fault.Card ⁏ fault_of r s m
 
 -- ---- the order of the faults
 -- finds fault 2 before 1
 abbrev pub length_before_type : Reader
-length_before_type = faulting λ r s m. dw_length m isnt (length m - 10) ⇒ Fault.Length ⁏ fault_of r s m
+length_before_type = faulting λ r s m. dw_length m isnt (length m - 10) ⇒ Some Fault.Length ⁏ fault_of r s m
 
 -- finds fault 3 before 2
 abbrev pub slot_before_length : Reader
-slot_before_length = faulting λ r s m. supported r and b_slot m isnt 0 ⇒ Fault.OtherSlot ⁏ fault_of r s m
+slot_before_length = faulting λ r s m. supported r and b_slot m isnt 0 ⇒ Some Fault.OtherSlot ⁏ fault_of r s m
 
 -- finds fault 4 before 3
 abbrev pub header_before_slot : Reader
-header_before_slot = faulting λ r s m. b_error (fault_of r s m) is 0x05 and bad_field r m isnt 0 ⇒ Fault.Field (bad_field r m) ⁏ fault_of r s m
+header_before_slot = faulting λ r s m. b_error (fault_of r s m) is 0x05 and is_some (bad_field r m) ⇒ option_map Fault.Field (bad_field r m) ⁏ fault_of r s m
 
 -- finds fault 5 before 4
 abbrev pub card_before_header : Reader
 card_before_header = faulting λ r s m.
-    bad_field r m isnt 0 and b_error (fault_of r s m) is bad_field r m and not (ready r s) ⇒ Fault.Card
+    is_some (bad_field r m) and b_error (fault_of r s m) is unwrap_or (bad_field r m) 0 and not (ready r s) ⇒ Some Fault.Card
     ⁏ fault_of r s m
 
 -- ---- power on

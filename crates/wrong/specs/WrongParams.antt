@@ -5,6 +5,7 @@ use Rattle.words.specs.Bytes.{byte, number_in, byte_of, series}
 use Rattle.sets.specs.Sets.{default_set, protocol_of, factors, checksum, waiting, clock_stop, nad, bytes_of, reserved_fi, reserved_di, upper_bits, long_wait, fault_at, set_of, takes}
 use Rattle.slot.specs.Slots.{occupied, removed, powered, set_as, defaulted}
 use Rattle.sound.specs.Sound.{page_size, empty_sound, idle_sound, type_sound, open_sound, counts_sound}
+use Rattle.std.specs.Prelude.{Some, None, is_none, unwrap_or}
 use Rattle.faults.specs.declared.Fault.{Fault}
 use Rattle.faults.specs.Faults.{type_byte, dw_length, is_clear, fault_of}
 use Rattle.frame.specs.Answers.{b_error}
@@ -25,11 +26,11 @@ any_protocol = fielding λ t n. fault_at (byte_put 0 (n is 5 ⇒ 0 ⁏ 1) t) n
 
 -- gives 01h where the protocol number does not fit the length
 abbrev pub protocol_as_length : Reader
-protocol_as_length = fielding λ t n. let at = fault_at t n in at is 7 ⇒ 1 ⁏ at
+protocol_as_length = fielding λ t n. let at = fault_at t n in unwrap_or at 0 is 7 ⇒ Some 1 ⁏ at
 
 -- takes no T=1
 abbrev pub refuses_t1 : Reader
-refuses_t1 = fielding λ t n. protocol_of t is 1 ⇒ 7 ⁏ fault_at t n
+refuses_t1 = fielding λ t n. protocol_of t is 1 ⇒ Some 7 ⁏ fault_at t n
 
 -- takes 61h of six bytes by its first five
 abbrev pub takes_six : Reader
@@ -63,7 +64,7 @@ five_bits = fielding λ t n. fault_at (byte_put 2 (checksum t - checksum t / 4 %
 
 -- tests all eight bits of the checksum byte
 abbrev pub eight_bits : Reader
-eight_bits = fielding λ t n. let at = fault_at t n in at is 0 and checksum t % 4 isnt 0 ⇒ 11 ⁏ at
+eight_bits = fielding λ t n. let at = fault_at t n in is_none at and checksum t % 4 isnt 0 ⇒ Some 11 ⁏ at
 
 -- takes T=0's checksum bits for T=1 too
 abbrev pub either_checksum : Reader
@@ -84,7 +85,7 @@ lower_bwi = fielding λ t n. fault_at (byte_put 4 (waiting t % 16 * 16 + waiting
 
 -- asks BWI of T=0 too
 abbrev pub bwi_in_t0 : Reader
-bwi_in_t0 = fielding λ t n. let at = fault_at t n in at is 0 and ltb 9 (waiting t / 16) ⇒ 13 ⁏ at
+bwi_in_t0 = fielding λ t n. let at = fault_at t n in is_none at and ltb 9 (waiting t / 16) ⇒ Some 13 ⁏ at
 
 -- ---- 0Eh: the clock stop; 10h: the NAD; and what is free
 -- lets a clock stop of 4 through
@@ -101,31 +102,31 @@ any_nad = fielding λ t n. fault_at (byte_put 7 0 t) n
 
 -- takes no guard time of FFh
 abbrev pub refuses_guard : Reader
-refuses_guard = fielding λ t n. let at = fault_at t n in at is 0 and byte_of t 3 is 0xFF ⇒ 12 ⁏ at
+refuses_guard = fielding λ t n. let at = fault_at t n in is_none at and byte_of t 3 is 0xFF ⇒ Some 12 ⁏ at
 
 -- takes no IFSC of 00h
 abbrev pub refuses_ifsc : Reader
-refuses_ifsc = fielding λ t n. let at = fault_at t n in at is 0 and protocol_of t is 1 and byte_of t 6 is 0 ⇒ 15 ⁏ at
+refuses_ifsc = fielding λ t n. let at = fault_at t n in is_none at and protocol_of t is 1 and byte_of t 6 is 0 ⇒ Some 15 ⁏ at
 
 -- ---- the order of the bytes
 -- looks from the last byte to the first
 abbrev pub last_byte_first : Reader
 last_byte_first = fielding λ t n.
-    nad t isnt 0 ⇒ 16
-    ⁏ ltb 3 (clock_stop t) ⇒ 14
-    ⁏ long_wait (protocol_of t) (waiting t) ⇒ 13
-    ⁏ checksum t / 4 isnt upper_bits (protocol_of t) ⇒ 11
-    ⁏ reserved_fi (factors t / 16) or reserved_di (factors t % 16) ⇒ 10
+    nad t isnt 0 ⇒ Some 16
+    ⁏ ltb 3 (clock_stop t) ⇒ Some 14
+    ⁏ long_wait (protocol_of t) (waiting t) ⇒ Some 13
+    ⁏ checksum t / 4 isnt upper_bits (protocol_of t) ⇒ Some 11
+    ⁏ reserved_fi (factors t / 16) or reserved_di (factors t % 16) ⇒ Some 10
     ⁏ fault_at t n
 
 -- ---- FEh
 -- does this type without a card
 abbrev pub cardless : ℕ → Reader
-cardless type = faulting λ r s m. type_byte m is type and b_error (fault_of r s m) is 0xFE ⇒ Fault.Clear ⁏ fault_of r s m
+cardless type = faulting λ r s m. type_byte m is type and b_error (fault_of r s m) is 0xFE ⇒ None ⁏ fault_of r s m
 
 -- wants an active card for this type
 abbrev pub wants_active : ℕ → Reader
-wants_active type = faulting λ r s m. type_byte m is type and is_clear (fault_of r s m) and not s.active ⇒ Fault.Card ⁏ fault_of r s m
+wants_active type = faulting λ r s m. type_byte m is type and is_clear (fault_of r s m) and not s.active ⇒ Some Fault.Card ⁏ fault_of r s m
 
 -- ---- the answer
 abbrev pub in82 : Outcome → Bool

@@ -1,12 +1,11 @@
 -- `transfer` meets its contract: failed, or the command done on the lent parts.
 use mathlib.Core.Path.{◌≡◌, sym, ap, ◌∙◌, subst}
-use mathlib.Core.Bool.{true}
+use mathlib.Core.Bool.{true, not}
 use native.Mathlib.Omega.{arith}
 use Prim.Native.Nat.{ℕ, ◌-◌}
 use lib.ListN.{length, take, drop, length-drop}
 use mathlib.Core.List.{List}
 use Rattle.std.specs.Prelude.{Option, Some}
-use Rattle.words.specs.Choice.{◌⇒◌⁏◌}
 use Rattle.words.proofs.Lists.{lent_tail, tail_is}
 use Rattle.chips.specs.Kinds.{facts}
 use Rattle.card.proofs.ImageLaws.{card_parts}
@@ -14,25 +13,24 @@ use Rattle.counts.specs.Counts.{protected_of}
 use Rattle.counts.proofs.CardLaws.{protected_card}
 use Rattle.sound.specs.Sound.{image_is_card}
 use Rattle.orders.specs.Orders.{commanded, Does}
-use Rattle.faults.specs.Faults.{Transfer, apdu, request_of}
+use Rattle.faults.specs.declared.Request.TheVariants.{Transfer}
+use Rattle.faults.specs.Faults.{apdu}
 use Rattle.frame.specs.Exchange.{deed}
 use Rattle.frame.proofs.AnswerLaws.{gives_failed, gives_done, gives_quiet, sealed_slot, sealed_clear, names_0}
-use borrow.Author.Rules.{rules}
 use Rattle.dispatch.proofs.transfer.Goals as goal
 use Rattle.chips.specs.declared.Chip.{Chip}
 
-pub returns-then-not-is_clear : goal.returns-then-not-is_clear
-unfolding request_of ◌⇒◌⁏◌
-returns-then-not-is_clear c =
-    gives_failed Transfer c.args.slot c.args.image.now c.args.msg.now c.fault_of-fault.ensures
-    c.args.answer.now (sym c.is_clear.ensures ∙ c.if-not-is_clear.true) (omega arith)
+pub returns-then-is_some : goal.returns-then-is_some
+returns-then-is_some c =
+    let a = c.args in
+    gives_failed Transfer a.slot a.image.now a.msg.now c.fault_of-fault.ensures a.answer.now (ap not (sym c.if-is_some.ensures)) (omega arith)
     c.seal.ensures
 
 pub returns-in_default : goal.returns-in_default
-unfolding deed request_of ◌⇒◌⁏◌
+unfolding deed
 returns-in_default c =
     gives_quiet Transfer c.args.slot c.args.image.now c.args.msg.now c.fault_of-fault.ensures
-    c.args.answer.now c.args.slot (sym c.is_clear.ensures ∙ c.if-not-is_clear.false)
+    c.args.answer.now c.args.slot (ap not (sym c.if-is_some.ensures))
     (ap (λ (h : Option Chip). deed Transfer h c.args.slot c.args.image.now c.args.msg.now) c.in_default.is)
     (omega arith) c.seal-in_default.ensures
 
@@ -48,16 +46,11 @@ command-told-requires c =
       c.requires.4 ∙ ap (λ (h : Option Chip). protected_of h a.image.now) c.in-Some.is ∙ protected_card c.in-Some.chip a.image.now long,
     )
 
-pub seal_done-requires : goal.seal_done-requires
-seal_done-requires c = (
-  search rules,
-  search rules,
-  c.command-told.ensures.short,
-  names_0 _ _ _ c.fault_of-fault.ensures (sym c.is_clear.ensures ∙ c.if-not-is_clear.false),
-)
+pub seal_done-requires-clause-slot_0 : goal.seal_done-requires-clause-slot_0
+seal_done-requires-clause-slot_0 c = names_0 _ _ _ c.fault_of-fault.ensures (ap not (sym c.if-is_some.ensures))
 
 pub returns : goal.returns
-unfolding deed request_of ◌⇒◌⁏◌
+unfolding deed
 returns c =
     let a = c.args in
     let f = facts c.in-Some.chip in
@@ -69,7 +62,7 @@ returns c =
     (take (length a.answer.now - 10) (drop 10 a.answer.now)) c.command-told.new.out) (tail_is 10 m)
     c.command-told.ensures.does in
     gives_done Transfer a.slot im m c.fault_of-fault.ensures a.answer.now (commanded f a.slot im (apdu m))
-    (sym c.is_clear.ensures ∙ c.if-not-is_clear.false)
+    (ap not (sym c.if-is_some.ensures))
     (ap (λ (h : Option Chip). deed Transfer h a.slot im m) c.in-Some.is)
     g.len (omega (arith, c.requires.1)) (lent_tail 10 a.answer.now (commanded f a.slot im (apdu m)).said g.out) g.image
-    (sealed_slot g.slot (sealed_clear (sym c.is_clear.ensures ∙ c.if-not-is_clear.false) c.seal_done.ensures))
+    (sealed_slot g.slot (sealed_clear (ap not (sym c.if-is_some.ensures)) c.seal_done.ensures))

@@ -1,37 +1,32 @@
 -- `tell` meets its contract: failed, or the parameters told behind the header.
-use mathlib.Core.Path.{refl, sym, ◌∙◌}
+use mathlib.Core.Path.{refl, sym, ap}
+use mathlib.Core.Bool.{not}
 use native.Mathlib.Omega.{arith}
 use lib.ListN.{length-drop}
 use Rattle.words.proofs.Lists.{lent_tail, tail_is}
 use Rattle.sets.specs.Sets.{bytes_of}
 use Rattle.frame.specs.Exchange.{told}
-use Rattle.frame.proofs.AnswerLaws.{gives_failed, gives_done, sealed_type, sealed_clear}
-use borrow.Author.Rules.{rules}
+use Rattle.frame.proofs.AnswerLaws.{gives_failed, gives_done, sealed_type, sealed_clear, names_0}
 use Rattle.params.proofs.tell.Goals as goal
 
-pub returns-then-not-is_clear : goal.returns-then-not-is_clear
-returns-then-not-is_clear c q image type fault does =
+pub returns-then-is_some : goal.returns-then-is_some
+returns-then-is_some c image type does =
     let a = c.args in
-    let failed = sym c.is_clear.ensures ∙ c.if-not-is_clear.true in
-    gives_failed q a.slot image a.msg.now fault a.answer.now failed (omega arith) (sealed_type (sym type) c.seal.ensures)
+    gives_failed a.request a.slot image a.msg.now c.fault_of-fault.ensures a.answer.now (ap not (sym c.if-is_some.ensures)) (omega arith)
+    (sealed_type (sym type) c.seal.ensures)
 
 pub put_set-len-requires : goal.put_set-len-requires
 put_set-len-requires c =
     let a = c.args in
     rw (tail_is 10 a.answer.now) (omega (arith, length-drop 10 a.answer.now))
 
-pub seal_done-requires : goal.seal_done-requires
-seal_done-requires c = (
-  search rules,
-  search rules,
-  search rules,
-  c.requires.2 (sym c.is_clear.ensures ∙ c.if-not-is_clear.false),
-)
+pub seal_done-requires-clause-slot_0 : goal.seal_done-requires-clause-slot_0
+seal_done-requires-clause-slot_0 c = names_0 _ _ _ c.fault_of-fault.ensures (ap not (sym c.if-is_some.ensures))
 
 pub returns : goal.returns
-returns c q image type fault does =
+returns c image type does =
     let a = c.args in
     let put = c.put_set-len.ensures in
-    let clear = sym c.is_clear.ensures ∙ c.if-not-is_clear.false in
-    gives_done q a.slot image a.msg.now fault a.answer.now (told a.next image) clear does put.0 (omega arith)
+    let clear = ap not (sym c.if-is_some.ensures) in
+    gives_done a.request a.slot image a.msg.now c.fault_of-fault.ensures a.answer.now (told a.next image) clear does put.0 (omega arith)
     (lent_tail 10 a.answer.now (bytes_of a.next.set) put.1) refl (sealed_type (sym type) (sealed_clear clear c.seal_done.ensures))

