@@ -5,7 +5,8 @@
 ghost use Rattle.std.specs.Prelude.{◌≡◌, not, ℕ, ◌<◌};
 ghost use Rattle.words.specs.Choice.{◌and◌};
 ghost use Rattle.chips.specs.Kinds.{facts};
-ghost use Rattle.steps.specs.Steps.{Write, Protect, Present, Change, has, steps};
+ghost use Rattle.steps.specs.declared.Ins.TheVariants.{Write, Protect, Present, Change};
+ghost use Rattle.steps.specs.Steps.{has, steps};
 
 use chips::Chip;
 use slot::Slot;
