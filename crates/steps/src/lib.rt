@@ -6,7 +6,7 @@
 ghost use Rattle.std.specs.Prelude.{◌≡◌, ℕ, ◌<◌, true, false, MatchResult};
 ghost use Rattle.chips.specs.Kinds.{facts};
 ghost use Rattle.steps.specs.declared.Ins.TheVariants.{Select, Page, Read, Counter, Bits};
-ghost use Rattle.steps.specs.Steps.{ins_of, length_fits, steps};
+ghost use Rattle.steps.specs.Steps.{word_of, ins_of, length_fits, steps};
 
 use chips::Chip;
 use slot::Slot;
@@ -29,6 +29,21 @@ impl Status {
         ensures { MatchResult result (λ _. passes ≡ true) (λ status. (status ≡ self) × (passes ≡ false)) }
     {
         if passes { Ok(()) } else { Err(self) }
+    }
+
+    // The two bytes of the status word.
+    pub fn word(self) -> [u8; 2]
+        ensures { result ≡ word_of self }
+    {
+        match self {
+            Status::Length => [0x67, 0x00],
+            Status::Class => [0x6E, 0x00],
+            Status::Instruction => [0x6D, 0x00],
+            Status::Unselected => [0x69, 0x85],
+            Status::Place => [0x6B, 0x00],
+            Status::Value => [0x6A, 0x80],
+            Status::Denied => [0x69, 0x82],
+        }
     }
 }
 
