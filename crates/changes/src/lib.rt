@@ -75,7 +75,11 @@ pub fn present(chip: Chip, slot: Slot, image: &mut [u8], guess: &[u8], out: &mut
     let left = image[counter];
     let len = put_two(out, 0, 0x90, left);
     let counted = slot.with_tries(codes::tries_left(left));
-    let slot = if opens { counted.open() } else { counted.close() };
+    let slot = if opens {
+        counted.open()
+    } else {
+        counted.close()
+    };
     Told { len, slot }
 }
 
