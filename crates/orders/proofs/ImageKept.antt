@@ -214,7 +214,8 @@ module _ (chip : Chip) (s : Slot) (image b : List ℕ) where
   count_changed e = count_same q.bits q.covered image _ (length-sets image q.code b) (λ j h. guard_changed chip image b j (omega arith) e)
 
 -- ---- a card stays a card of its kind
-pub card_kept : (chip : Chip) (s : Slot) (image b : List ℕ) (o : Result Order Status) → IsCard (facts chip) image → Fit (facts chip) b o → IsCard (facts chip) (image_by (facts chip) s image b o)
+pub card_kept : (chip : Chip) (s : Slot) (image b : List ℕ) (o : Result Order Status) → IsCard (facts chip) image → Fit (facts chip) b o
+    → IsCard (facts chip) (image_by (facts chip) s image b o)
 card_kept chip s image b o k h = go (facts chip).coded refl
   where
     f : Facts

@@ -40,7 +40,8 @@ module _ (chip : Chip) (s : Slot) (image : List ℕ) (m : Sent) (holds : s.holds
   unfolding performed said_by image_by slot_by counter_read
   counter_told n h t e =
       let p : sending s image m ≡ answered Transfer m.message Fault.Clear (performed (facts chip) s image (body (apdu m.message)) (Ok (Order.Counter n))) =
-      transfer_does chip s image m holds h t ∙ ap (λ (o : Result Order Status). answered Transfer m.message Fault.Clear (performed (facts chip) s image (body (apdu m.message)) o)) e in (
+      transfer_does chip s image m holds h t
+      ∙ ap (λ (o : Result Order Status). answered Transfer m.message Fault.Clear (performed (facts chip) s image (body (apdu m.message)) o)) e in (
         subst⁻¹ (λ (o : Outcome). o.answer ≡ answer Transfer m.message Fault.Clear o.slot
             (byte image (facts chip).counter ∷ replicate (n - 1) 0 ++ (0x90 ∷ 0x00 ∷ []))) p refl,
         ap (λ (o : Outcome). o.image) p,
