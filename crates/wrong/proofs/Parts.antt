@@ -219,7 +219,7 @@ let_writes f s d h = go (decided f s d) (and_true _ _ h).1
 
 -- so it does what the rules say of one
 let_does : (f : Facts) (s : Slot) (i d : List ℕ) → byte d 1 is 0xD0 and lets (order f s d) ≡ true
-    → commanded f s i d ≡ performed f s i (body d) (Order.Write (p1p2 d))
+    → commanded f s i d ≡ performed f s i (body d) (Ok (Order.Write (p1p2 d)))
 unfolding commanded
 let_does f s i d h = ap (performed f s i (body d)) (let_writes f s d h)
 
@@ -229,7 +229,7 @@ storing_ours = commanding_ours _ (λ f s i d.
     let stored : List ℕ = storing f.bits f.covered i (p1p2 d) (body d) in
     either (λ (x : Deed). x ≡ commanded f s i d) _
     (λ h. subst⁻¹ (λ (e : Deed). (f.page isnt 0 ⇒ e ⁏ tells (written_word f stored (p1p2 d) (body d)) (leaves stored e)) ≡ e) (let_does f s i d h)
-    (either (λ (x : Deed). x ≡ performed f s i (body d) (Order.Write (p1p2 d))) _
+    (either (λ (x : Deed). x ≡ performed f s i (body d) (Ok (Order.Write (p1p2 d)))) _
     (λ _. refl)
     (λ z. ap (λ (l : List ℕ). record { said = written_word f l (p1p2 d) (body d); slot = s; image = l }) (sym (rest _ _ z)))))
     (λ _. refl))
