@@ -45,12 +45,14 @@ pub fn meant(chip: Chip, ins: Ins) -> Meaning
     }
 }
 
-// Whether n bytes from the address on lie in the memory and none of them is the counter. Of a card without a code it stands past the memory.
+// Whether n bytes from the address on lie in the memory and none of them is the counter. A card without a code has none to ask for: its row has
+// it past the memory, so the test of the code changes no answer and is there for the speed of a write.
 fn writable(chip: Chip, at: usize, n: usize) -> bool
     requires { (at < addresses + addresses) × (n < 256) }
     ensures { result ≡ place_fits (facts chip) Write at n }
 {
-    at + n <= chip.facts().memory && (at + n <= chip.facts().counter || chip.facts().counter < at)
+    at + n <= chip.facts().memory
+        && (!chip.facts().coded || at + n <= chip.facts().counter || chip.facts().counter < at)
 }
 
 // Whether the address fits what INS means, and as many bytes from it on as P3 says.
