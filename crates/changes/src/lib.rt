@@ -2,7 +2,7 @@
 // the answer buffer is long enough, and that the order fits the card. The rules are those of `orders`.
 #![tactic(auto)]
 
-ghost use Rattle.std.specs.Prelude.{◌≡◌, true, ◌+◌, ◌≤◌, ◌<◌, length};
+ghost use Rattle.std.specs.Prelude.{◌≡◌, true, ◌+◌, ◌≤◌, ◌<◌, length, Ok};
 ghost use Rattle.words.specs.Bounds.{least_tail};
 ghost use Rattle.chips.specs.Kinds.{facts};
 ghost use Rattle.counts.specs.Counts.{count_in};
@@ -38,11 +38,10 @@ pub fn write(
     out: &mut [u8],
 ) -> Told
     requires { (least_tail ≤ length out.old) × (length image.old ≡ (facts chip).size) × (at + length «data».now ≤ (facts chip).memory) × (0 < slot.page) }
-    ensures { Does (performed (facts chip) slot image.old «data».now (Order.Write at)) result image.new out.old out.new }
+    ensures { Does (performed (facts chip) slot image.old «data».now (Ok (Order.Write at))) result image.new out.old out.new }
 {
     if write_bytes(chip, slot.page, image, at, data) {
-        let len = put_two(out, 0, 0x90, 0x00);
-        return Told { len, slot };
+        return Told::done(0, slot, out);
     }
     let len = put_two(out, 0, 0x65, 0x81);
     Told { len, slot }
@@ -59,38 +58,36 @@ pub fn protect(
 ) -> Told
     requires { (least_tail ≤ length out.old) × (length image.old ≡ (facts chip).size) × (at + length «data».now ≤ (facts chip).reach)
         × (slot.protected ≡ count_in (facts chip) image.old) }
-    ensures { Does (performed (facts chip) slot image.old «data».now (Order.Protect at)) result image.new out.old out.new }
+    ensures { Does (performed (facts chip) slot image.old «data».now (Ok (Order.Protect at))) result image.new out.old out.new }
 {
     let more = card::protection(chip).protect(image, at, data);
-    let len = put_two(out, 0, 0x90, 0x00);
     let next = slot.with_protected(slot.protected + more as u16);
-    Told { len, slot: next }
+    Told::done(0, next, out)
 }
 
 // 20: the code is presented, and 90 is told with the counter afterwards; tries left are the counter's. The right code opens, any other closes.
 pub fn present(chip: Chip, slot: Slot, image: &mut [u8], guess: &[u8], out: &mut [u8]) -> Told
     requires { (least_tail ≤ length out.old) × (length image.old ≡ (facts chip).size) × ((facts chip).coded ≡ true) × (length guess.now ≡ (facts chip).digits) }
-    ensures { Does (performed (facts chip) slot image.old guess.now Order.Present) result image.new out.old out.new }
+    ensures { Does (performed (facts chip) slot image.old guess.now (Ok Order.Present)) result image.new out.old out.new }
 {
     let counter = chip.facts().counter;
     let opens = codes::present(image, counter, chip.facts().full, chip.facts().code, guess);
     let left = image[counter];
     let len = put_two(out, 0, 0x90, left);
     let counted = slot.with_tries(codes::tries_left(left));
-    if opens {
-        let next = counted.open();
-        return Told { len, slot: next };
-    }
-    let next = counted.close();
-    Told { len, slot: next }
+    let slot = if opens {
+        counted.open()
+    } else {
+        counted.close()
+    };
+    Told { len, slot }
 }
 
 // D2: the new code is stored, and the card stays open.
 pub fn change(chip: Chip, slot: Slot, image: &mut [u8], code: &[u8], out: &mut [u8]) -> Told
     requires { (least_tail ≤ length out.old) × (length image.old ≡ (facts chip).size) × (length code.now ≡ (facts chip).digits) }
-    ensures { Does (performed (facts chip) slot image.old code.now Order.Change) result image.new out.old out.new }
+    ensures { Does (performed (facts chip) slot image.old code.now (Ok Order.Change)) result image.new out.old out.new }
 {
     pages::store(image, chip.facts().code, code);
-    let len = put_two(out, 0, 0x90, 0x00);
-    Told { len, slot }
+    Told::done(0, slot, out)
 }

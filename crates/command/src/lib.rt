@@ -2,7 +2,7 @@
 // that the slot's number of protected bytes is the image's, and that the lent tail of the answer buffer is long enough. The rules are those of `steps` and `orders`.
 #![tactic(auto)]
 
-ghost use Rattle.std.specs.Prelude.{◌≡◌, ◌≤◌, ◌<◌, length};
+ghost use Rattle.std.specs.Prelude.{◌≡◌, ◌≤◌, ◌<◌, length, Ok};
 ghost use Rattle.words.specs.Bounds.{least_tail};
 ghost use Rattle.chips.specs.Kinds.{facts};
 ghost use Rattle.counts.specs.Counts.{count_in};
@@ -24,11 +24,10 @@ fn perform(
     out: &mut [u8],
 ) -> Told
     requires { (least_tail ≤ length out.old) × (length image.old ≡ (facts chip).size) × (0 < slot.page)
-        × Fit (facts chip) «data».now order × Short order × (slot.protected ≡ count_in (facts chip) image.old) }
-    ensures { Does (performed (facts chip) slot image.old «data».now order) result image.new out.old out.new }
+        × Fit (facts chip) «data».now (Ok order) × Short (Ok order) × (slot.protected ≡ count_in (facts chip) image.old) }
+    ensures { Does (performed (facts chip) slot image.old «data».now (Ok order)) result image.new out.old out.new }
 {
     match order {
-        Order::Refuse(status) => orders::refuse(status, slot, out),
         Order::Select => orders::select(chip, slot, out),
         Order::Page(page) => orders::set_page(page, slot, out),
         Order::Read { at, count } => orders::read(chip, slot, image, at, count, out),
@@ -51,6 +50,8 @@ pub fn command(chip: Chip, slot: Slot, image: &mut [u8], apdu: &[u8], out: &mut 
     if apdu.len() < 5 {
         return orders::refuse(Status::Length, slot, out);
     }
-    let order = decide::decide(chip, slot, apdu);
-    perform(order, chip, slot, image, &apdu[5..], out)
+    match decide::decide(chip, slot, apdu) {
+        Ok(order) => perform(order, chip, slot, image, &apdu[5..], out),
+        Err(status) => orders::refuse(status, slot, out),
+    }
 }

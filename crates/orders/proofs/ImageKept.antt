@@ -1,5 +1,6 @@
 -- What an order leaves of the image: its length and the bytes that have to be 00h always, the counter unless a code is presented, the
 -- protection bytes unless D1 protects, and being a card of its kind; while the card is closed nothing but a presented code changes a byte of a code card.
+use Rattle.std.specs.Prelude.{Result, Ok, Err}
 use mathlib.Core.Path.{◌≡◌, refl, sym, ap, ◌∙◌, subst⁻¹}
 use mathlib.Core.List.{List}
 use mathlib.Core.Bool.{Bool, true, false, not, true≢false}
@@ -30,8 +31,11 @@ use Rattle.pages.proofs.PageLaws.{length_page_write}
 use Rattle.stores.specs.Stores.{storing}
 use Rattle.stores.proofs.StoreLaws.{length_storing, byte_outside}
 use Rattle.codes.proofs.CodeLaws.{presenting_either, length_presenting, byte_presenting, byte_spending, byte_full}
+use Rattle.steps.specs.declared.Status.{Status}
 use Rattle.steps.specs.declared.Order.{Order}
-use Rattle.steps.specs.Steps.{Ins, Select, Page, Read, Counter, Bits, Write, Protect, Present, Change, Other, p3, body, ordered, presents, order}
+use Rattle.steps.specs.declared.Ins.{Ins}
+use Rattle.steps.specs.declared.Ins.TheVariants.{Select, Page, Read, Counter, Bits, Write, Protect, Present, Change, Other}
+use Rattle.steps.specs.Steps.{p3, body, ordered, presents, order}
 use Rattle.orders.specs.Orders.{after_code, written, image_by}
 use Rattle.steps.proofs.Decisions.{Passed, Decided, refused, through, decided}
 use Rattle.steps.proofs.PresentAgain.{presents_is}
@@ -44,18 +48,18 @@ module _ (f : Facts) (s : Slot) (image b : List ℕ) where
   length_written page at =
       either (λ (l : List ℕ). length l ≡ length image) _ (λ _. length_page_write page f.page image at at b) (λ _. length_storing f.bits f.covered image at b)
 
-  pub length_image_by : (o : Order) → length (image_by f s image b o) ≡ length image
+  pub length_image_by : (o : Result Order Status) → length (image_by f s image b o) ≡ length image
   unfolding image_by
-  length_image_by (Order.Refuse status) = refl
-  length_image_by Order.Select = refl
-  length_image_by (Order.Page p) = refl
-  length_image_by (Order.Read at n) = refl
-  length_image_by (Order.Counter n) = refl
-  length_image_by (Order.Bits at n) = refl
-  length_image_by (Order.Write at) = length_written s.page at
-  length_image_by (Order.Protect at) = length_protect_equal f.bits f.covered image at b
-  length_image_by Order.Present = length_presenting f.counter f.full f.code f.digits image b
-  length_image_by Order.Change = length-sets image f.code b
+  length_image_by (Err status) = refl
+  length_image_by (Ok Order.Select) = refl
+  length_image_by (Ok (Order.Page p)) = refl
+  length_image_by (Ok (Order.Read at n)) = refl
+  length_image_by (Ok (Order.Counter n)) = refl
+  length_image_by (Ok (Order.Bits at n)) = refl
+  length_image_by (Ok (Order.Write at)) = length_written s.page at
+  length_image_by (Ok (Order.Protect at)) = length_protect_equal f.bits f.covered image at b
+  length_image_by (Ok Order.Present) = length_presenting f.counter f.full f.code f.digits image b
+  length_image_by (Ok Order.Change) = length-sets image f.code b
 
   -- a card without pages stores the bytes that are not protected
   pub written_stores : f.page ≡ 0 → (page at : ℕ) → written f page image at b ≡ storing f.bits f.covered image at b
@@ -69,50 +73,50 @@ module _ (f : Facts) (s : Slot) (image b : List ℕ) where
 -- ---- the counter, and its protection bit
 module _ (f : Facts) (c : Coded f) (s : Slot) (image b : List ℕ) where
   -- an order that presents no code leaves the counter
-  pub counter_kept : (o : Order) → Fit f b o → presents o ≡ false → byte (image_by f s image b o) f.counter ≡ byte image f.counter
+  pub counter_kept : (o : Result Order Status) → Fit f b o → presents o ≡ false → byte (image_by f s image b o) f.counter ≡ byte image f.counter
   unfolding image_by
-  counter_kept (Order.Refuse status) h ne = refl
-  counter_kept Order.Select h ne = refl
-  counter_kept (Order.Page p) h ne = refl
-  counter_kept (Order.Read at n) h ne = refl
-  counter_kept (Order.Counter n) h ne = refl
-  counter_kept (Order.Bits at n) h ne = refl
-  counter_kept (Order.Write at) h ne = byte_written f s image b c.pageless s.page at f.counter (go h.2)
+  counter_kept (Err status) h ne = refl
+  counter_kept (Ok Order.Select) h ne = refl
+  counter_kept (Ok (Order.Page p)) h ne = refl
+  counter_kept (Ok (Order.Read at n)) h ne = refl
+  counter_kept (Ok (Order.Counter n)) h ne = refl
+  counter_kept (Ok (Order.Bits at n)) h ne = refl
+  counter_kept (Ok (Order.Write at)) h ne = byte_written f s image b c.pageless s.page at f.counter (go h.2)
     where
       go : (at + length b ≤ f.counter) ⊎ (f.counter < at) → (f.counter < at) ⊎ (at + length b ≤ f.counter)
       go (inl k) = inr k
       go (inr k) = inl k
-  counter_kept (Order.Protect at) h ne = byte_protect_equal f.bits f.covered image at b f.counter (go c.apart)
+  counter_kept (Ok (Order.Protect at)) h ne = byte_protect_equal f.bits f.covered image at b f.counter (go c.apart)
     where
       go : Clear f.counter 1 f.reach f → (f.counter < f.bits) ⊎ (f.bits + (at + length b + 7) / 8 ≤ f.counter)
       go (inl k) = inl (omega arith)
       go (inr k) = inr (omega arith)
-  counter_kept Order.Present h ne = absurd (true≢false ne)
-  counter_kept Order.Change h ne = byte_sets image f.code b f.counter (inl c.behind)
+  counter_kept (Ok Order.Present) h ne = absurd (true≢false ne)
+  counter_kept (Ok Order.Change) h ne = byte_sets image f.code b f.counter (inl c.behind)
 
   -- where the counter has a protection bit of its own, every order leaves it
-  pub bit_kept : Guarded f → (o : Order) → Fit f b o
+  pub bit_kept : Guarded f → (o : Result Order Status) → Fit f b o
       → protection_bit f.bits f.covered (image_by f s image b o) f.counter ≡ protection_bit f.bits f.covered image f.counter
   unfolding image_by
-  bit_kept g (Order.Refuse status) h = refl
-  bit_kept g Order.Select h = refl
-  bit_kept g (Order.Page p) h = refl
-  bit_kept g (Order.Read at n) h = refl
-  bit_kept g (Order.Counter n) h = refl
-  bit_kept g (Order.Bits at n) h = refl
-  bit_kept g (Order.Write at) h =
+  bit_kept g (Err status) h = refl
+  bit_kept g (Ok Order.Select) h = refl
+  bit_kept g (Ok (Order.Page p)) h = refl
+  bit_kept g (Ok (Order.Read at n)) h = refl
+  bit_kept g (Ok (Order.Counter n)) h = refl
+  bit_kept g (Ok (Order.Bits at n)) h = refl
+  bit_kept g (Ok (Order.Write at)) h =
       bit_same f.bits f.covered image _ f.counter
       (byte_written f s image b c.pageless s.page at (f.bits + f.counter / 8) (inr (omega (arith, h.0, g.behind))))
-  bit_kept g (Order.Protect at) h = bit_protect_equal f.bits f.covered image at b f.counter (inr (omega (arith, g.short)))
-  bit_kept g Order.Present h =
+  bit_kept g (Ok (Order.Protect at)) h = bit_protect_equal f.bits f.covered image at b f.counter (inr (omega (arith, g.short)))
+  bit_kept g (Ok Order.Present) h =
       bit_same f.bits f.covered image _ f.counter
       (byte_presenting f.counter f.full f.code f.digits image b (f.bits + f.counter / 8) (λ e. omega (arith, g.before)))
-  bit_kept g Order.Change h =
+  bit_kept g (Ok Order.Change) h =
       bit_same f.bits f.covered image (sets image f.code b) f.counter
       (byte_sets image f.code b (f.bits + f.counter / 8) (inr (omega (arith, h.1, g.beyond))))
 
   -- a presented code leaves the counter at most full
-  present_within : IsCard f image → byte (image_by f s image b Order.Present) f.counter ≤ f.full
+  present_within : IsCard f image → byte (image_by f s image b (Ok Order.Present)) f.counter ≤ f.full
   unfolding image_by
   present_within k =
       let inside : f.counter < length image = omega (arith, k.long, c.inside) in
@@ -121,11 +125,11 @@ module _ (f : Facts) (c : Coded f) (s : Slot) (image b : List ℕ) where
       (omega (arith, byte_spending f.counter f.full f.code f.digits image b inside, spent_le (byte image f.counter), k.within))
       (omega (arith, byte_full f.counter f.full f.code f.digits image b inside))
 
-  pub within_kept : IsCard f image → (o : Order) → Fit f b o → byte (image_by f s image b o) f.counter ≤ f.full
+  pub within_kept : IsCard f image → (o : Result Order Status) → Fit f b o → byte (image_by f s image b o) f.counter ≤ f.full
   within_kept k o h = go (presents o) refl
     where
       go : (t : Bool) → presents o ≡ t → byte (image_by f s image b o) f.counter ≤ f.full
-      go true e = subst⁻¹ (λ (o : Order). byte (image_by f s image b o) f.counter ≤ f.full) (presents_is o e) (present_within k)
+      go true e = subst⁻¹ (λ (o : Result Order Status). byte (image_by f s image b o) f.counter ≤ f.full) (presents_is o e) (present_within k)
       go false e = omega (arith, counter_kept o h e, k.within)
 
 -- ---- the bytes that have to be 00h
@@ -137,21 +141,21 @@ module _ (chip : Chip) (s : Slot) (image b : List ℕ) where
   no_zeros : {A : Type 0} → f.coded ≡ true → f.zeros < f.size → A
   no_zeros c l = absurd (omega (arith, (coded chip c).filled))
 
-  tail_kept : f.zeros < f.size → (o : Order) → Fit f b o → (k : ℕ) → f.zeros ≤ k → byte (image_by f s image b o) k ≡ byte image k
+  tail_kept : f.zeros < f.size → (o : Result Order Status) → Fit f b o → (k : ℕ) → f.zeros ≤ k → byte (image_by f s image b o) k ≡ byte image k
   unfolding image_by
-  tail_kept l (Order.Refuse status) h k e = refl
-  tail_kept l Order.Select h k e = refl
-  tail_kept l (Order.Page p) h k e = refl
-  tail_kept l (Order.Read at n) h k e = refl
-  tail_kept l (Order.Counter n) h k e = refl
-  tail_kept l (Order.Bits at n) h k e = refl
-  tail_kept l (Order.Write at) h k e = byte_written f s image b (zeroed chip l).pageless s.page at k (inr (omega (arith, h.0, (zeroed chip l).behind)))
-  tail_kept l (Order.Protect at) h k e = byte_protect_equal f.bits f.covered image at b k (inr (omega (arith, h.0, (zeroed chip l).beyond)))
-  tail_kept l Order.Present h k e = no_zeros h.0 l
-  tail_kept l Order.Change h k e = no_zeros h.0 l
+  tail_kept l (Err status) h k e = refl
+  tail_kept l (Ok Order.Select) h k e = refl
+  tail_kept l (Ok (Order.Page p)) h k e = refl
+  tail_kept l (Ok (Order.Read at n)) h k e = refl
+  tail_kept l (Ok (Order.Counter n)) h k e = refl
+  tail_kept l (Ok (Order.Bits at n)) h k e = refl
+  tail_kept l (Ok (Order.Write at)) h k e = byte_written f s image b (zeroed chip l).pageless s.page at k (inr (omega (arith, h.0, (zeroed chip l).behind)))
+  tail_kept l (Ok (Order.Protect at)) h k e = byte_protect_equal f.bits f.covered image at b k (inr (omega (arith, h.0, (zeroed chip l).beyond)))
+  tail_kept l (Ok Order.Present) h k e = no_zeros h.0 l
+  tail_kept l (Ok Order.Change) h k e = no_zeros h.0 l
 
   -- every order leaves them
-  pub zeros_kept : length image ≡ f.size → (o : Order) → Fit f b o → (k : ℕ) → f.zeros ≤ k → byte (image_by f s image b o) k ≡ byte image k
+  pub zeros_kept : length image ≡ f.size → (o : Result Order Status) → Fit f b o → (k : ℕ) → f.zeros ≤ k → byte (image_by f s image b o) k ≡ byte image k
   zeros_kept long o h k e = go (ltb f.zeros f.size) refl
     where
       go : (t : Bool) → ltb f.zeros f.size ≡ t → byte (image_by f s image b o) k ≡ byte image k
@@ -210,7 +214,8 @@ module _ (chip : Chip) (s : Slot) (image b : List ℕ) where
   count_changed e = count_same q.bits q.covered image _ (length-sets image q.code b) (λ j h. guard_changed chip image b j (omega arith) e)
 
 -- ---- a card stays a card of its kind
-pub card_kept : (chip : Chip) (s : Slot) (image b : List ℕ) (o : Order) → IsCard (facts chip) image → Fit (facts chip) b o → IsCard (facts chip) (image_by (facts chip) s image b o)
+pub card_kept : (chip : Chip) (s : Slot) (image b : List ℕ) (o : Result Order Status) → IsCard (facts chip) image → Fit (facts chip) b o
+    → IsCard (facts chip) (image_by (facts chip) s image b o)
 card_kept chip s image b o k h = go (facts chip).coded refl
   where
     f : Facts
@@ -236,7 +241,7 @@ module _ (f : Facts) (s : Slot) (image d : List ℕ) (coded : f.coded ≡ true) 
   unfolding ◌and◌
   denied e = absurd (true≢false (sym (ap (λ (t : Bool). t and not s.«open») coded ∙ ap not shut) ∙ e))
 
-  shut_decided : {o : Order} → Decided f s d o → presents o ≡ false → image_by f s image (body d) o ≡ image
+  shut_decided : {o : Result Order Status} → Decided f s d o → presents o ≡ false → image_by f s image (body d) o ≡ image
   unfolding image_by ◌and◌
   shut_decided (refused status) ne = refl
   shut_decided (through i at p) ne = go i at p ne

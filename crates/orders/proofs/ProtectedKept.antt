@@ -1,5 +1,6 @@
 -- What an order leaves of protected bytes, over every kind of card with protection bits: a protected byte keeps its value, and a byte is
 -- protected afterwards where it was before and where the order is a D1 that carries its value.
+use Rattle.std.specs.Prelude.{Result, Ok, Err}
 use mathlib.Core.Path.{◌≡◌, refl, sym, ap, ◌∙◌}
 use mathlib.Core.List.{List}
 use mathlib.Core.Bool.{Bool, true, false}
@@ -24,8 +25,11 @@ use Rattle.stores.proofs.StoreLaws.{byte_passed}
 use Rattle.card.proofs.ImageLaws.{IsCard}
 use Rattle.codes.proofs.CodeLaws.{byte_presenting}
 use Rattle.slot.specs.declared.Slot.{Slot}
+use Rattle.steps.specs.declared.Status.{Status}
 use Rattle.steps.specs.declared.Order.{Order}
-use Rattle.steps.specs.Steps.{Ins, Select, Page, Read, Counter, Bits, Write, Protect, Present, Change, Other, p3, body, ordered, order}
+use Rattle.steps.specs.declared.Ins.{Ins}
+use Rattle.steps.specs.declared.Ins.TheVariants.{Select, Page, Read, Counter, Bits, Write, Protect, Present, Change, Other}
+use Rattle.steps.specs.Steps.{p3, body, ordered, order}
 use Rattle.steps.specs.Fits.{Fit}
 use Rattle.steps.proofs.Decisions.{Passed, Decided, refused, through, decided, fit_decided, order_fits}
 use Rattle.orders.specs.Orders.{image_by, carries_by}
@@ -72,7 +76,7 @@ module _ (chip : Chip) (s : Slot) (image : List ℕ) (k : ℕ) where
     value_passed d Change at p h = byte_sets image f.code (body d) k (inl (omega (arith, covered_by e, with_bits.past p.had)))
     value_passed d Other at p h = refl
 
-    value_decided : (d : List ℕ) {o : Order} → Decided f s d o → byte (image_by f s image (body d) o) k ≡ byte image k
+    value_decided : (d : List ℕ) {o : Result Order Status} → Decided f s d o → byte (image_by f s image (body d) o) k ≡ byte image k
     unfolding image_by
     value_decided d (refused status) = refl
     value_decided d (through i at p) = value_passed d i at p (fit_decided f s d (through i at p))
@@ -95,34 +99,34 @@ module _ (chip : Chip) (s : Slot) (image : List ℕ) (k : ℕ) where
       guarding : k / 8 < (f.covered + 7) / 8
       guarding = omega arith
 
-      protected_order : (b : List ℕ) (o : Order) → Fit f b o → guarded (image_by f s image b o) ≡ (guarded image or carries_by image b k o)
+      protected_order : (b : List ℕ) (o : Result Order Status) → Fit f b o → guarded (image_by f s image b o) ≡ (guarded image or carries_by image b k o)
       unfolding image_by
-      protected_order b (Order.Refuse status) w = sym (or_end _)
-      protected_order b Order.Select w = sym (or_end _)
-      protected_order b (Order.Page p) w = sym (or_end _)
-      protected_order b (Order.Read at n) w = sym (or_end _)
-      protected_order b (Order.Counter n) w = sym (or_end _)
-      protected_order b (Order.Bits at n) w = sym (or_end _)
-      protected_order b (Order.Write at) w = bit_stays _ (guard_written chip image b (k / 8) guarding s s.page at w.0)
-      protected_order b (Order.Protect at) w =
+      protected_order b (Err status) w = sym (or_end _)
+      protected_order b (Ok Order.Select) w = sym (or_end _)
+      protected_order b (Ok (Order.Page p)) w = sym (or_end _)
+      protected_order b (Ok (Order.Read at n)) w = sym (or_end _)
+      protected_order b (Ok (Order.Counter n)) w = sym (or_end _)
+      protected_order b (Ok (Order.Bits at n)) w = sym (or_end _)
+      protected_order b (Ok (Order.Write at)) w = bit_stays _ (guard_written chip image b (k / 8) guarding s s.page at w.0)
+      protected_order b (Ok (Order.Protect at)) w =
           protected_equal_lem f.bits f.covered k h (omega (arith, (laid chip).kept, has_bits_lem.behind)) image at b (omega (arith, (laid chip).guards, c.long))
-      protected_order b Order.Present w = bit_stays _ (guard_presented chip image b (k / 8) guarding)
-      protected_order b Order.Change w = bit_stays (sets image f.code b) (guard_changed chip image b (k / 8) guarding w.1)
+      protected_order b (Ok Order.Present) w = bit_stays _ (guard_presented chip image b (k / 8) guarding)
+      protected_order b (Ok Order.Change) w = bit_stays (sets image f.code b) (guard_changed chip image b (k / 8) guarding w.1)
 
     -- a byte without a bit is never protected, and no D1 reaches it
-    carries_none : f.covered ≤ k → (b : List ℕ) (o : Order) → Fit f b o → carries_by image b k o ≡ false
-    carries_none l b (Order.Refuse status) w = refl
-    carries_none l b Order.Select w = refl
-    carries_none l b (Order.Page p) w = refl
-    carries_none l b (Order.Read at n) w = refl
-    carries_none l b (Order.Counter n) w = refl
-    carries_none l b (Order.Bits at n) w = refl
-    carries_none l b (Order.Write at) w = refl
-    carries_none l b (Order.Protect at) w = carries_before at b k (byte image k) (omega (arith, w.0, (laid chip).reached))
-    carries_none l b Order.Present w = refl
-    carries_none l b Order.Change w = refl
+    carries_none : f.covered ≤ k → (b : List ℕ) (o : Result Order Status) → Fit f b o → carries_by image b k o ≡ false
+    carries_none l b (Err status) w = refl
+    carries_none l b (Ok Order.Select) w = refl
+    carries_none l b (Ok (Order.Page p)) w = refl
+    carries_none l b (Ok (Order.Read at n)) w = refl
+    carries_none l b (Ok (Order.Counter n)) w = refl
+    carries_none l b (Ok (Order.Bits at n)) w = refl
+    carries_none l b (Ok (Order.Write at)) w = refl
+    carries_none l b (Ok (Order.Protect at)) w = carries_before at b k (byte image k) (omega (arith, w.0, (laid chip).reached))
+    carries_none l b (Ok Order.Present) w = refl
+    carries_none l b (Ok Order.Change) w = refl
 
-    beyond : f.covered ≤ k → (b : List ℕ) (o : Order) → Fit f b o → guarded (image_by f s image b o) ≡ (guarded image or carries_by image b k o)
+    beyond : f.covered ≤ k → (b : List ℕ) (o : Result Order Status) → Fit f b o → guarded (image_by f s image b o) ≡ (guarded image or carries_by image b k o)
     beyond l b o w =
         protected_beyond f.bits f.covered (image_by f s image b o) k l
         ∙ sym (ap (λ (x : Bool). guarded image or x) (carries_none l b o w) ∙ or_end _ ∙ protected_beyond f.bits f.covered image k l)

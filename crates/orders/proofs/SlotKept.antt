@@ -1,4 +1,5 @@
 -- What an order leaves of the slot: the same card, and a sound record beside the image as it is afterwards.
+use Rattle.std.specs.Prelude.{Result, Ok, Err}
 use mathlib.Core.Path.{◌≡◌, refl, sym, ap, ◌∙◌, subst}
 use mathlib.Core.List.{List}
 use mathlib.Core.Bool.{Bool, true, false}
@@ -25,8 +26,11 @@ use Rattle.sound.specs.Sound.{full_code, page_size}
 use Rattle.sound.proofs.SoundLaws.{Sound, image_sound, selecting_sound, paged_sound, opened_sound, closed_sound}
 use Rattle.codes.specs.Counters.{tries}
 use Rattle.codes.proofs.CodeLaws.{accepts_full}
+use Rattle.steps.specs.declared.Status.{Status}
 use Rattle.steps.specs.declared.Order.{Order}
-use Rattle.steps.specs.Steps.{Ins, Select, Page, Read, Counter, Bits, Write, Protect, Present, Change, Other, p3, body, ordered, presents, order}
+use Rattle.steps.specs.declared.Ins.{Ins}
+use Rattle.steps.specs.declared.Ins.TheVariants.{Select, Page, Read, Counter, Bits, Write, Protect, Present, Change, Other}
+use Rattle.steps.specs.Steps.{p3, body, ordered, presents, order}
 use Rattle.orders.specs.Orders.{after_code, right_code, image_by, slot_by}
 use Rattle.steps.proofs.Decisions.{Passed, Decided, refused, through, decided, fit_decided}
 use Rattle.steps.specs.Fits.{Fit}
@@ -35,24 +39,24 @@ use Rattle.orders.proofs.ImageKept.{length_image_by, counter_kept, count_written
 -- what a select, a page, a code presented and bytes protected leave alone, every order leaves alone
 module _ {A : Type 0} (g : Slot → A) (f : Facts) (s : Slot) (image b : List ℕ) (typed : g (selecting f.selects s) ≡ g s) (sized : (p : ℕ) → g (paged p s) ≡ g s)
     (presented : (o : Bool) (n : ℕ) → g (open_as o (tries_as n s)) ≡ g s) (guarded : (n : ℕ) → g (protected_as n s) ≡ g s) where
-  slot_by_kept : (o : Order) → g (slot_by f s image b o) ≡ g s
+  slot_by_kept : (o : Result Order Status) → g (slot_by f s image b o) ≡ g s
   unfolding slot_by
-  slot_by_kept (Order.Refuse status) = refl
-  slot_by_kept Order.Select = typed
-  slot_by_kept (Order.Page p) = sized p
-  slot_by_kept (Order.Read at n) = refl
-  slot_by_kept (Order.Counter n) = refl
-  slot_by_kept (Order.Bits at n) = refl
-  slot_by_kept (Order.Write at) = refl
-  slot_by_kept (Order.Protect at) = guarded _
-  slot_by_kept Order.Present = either (λ (x : Slot). g x ≡ g s) _ (λ _. presented true _) (λ _. presented false _)
-  slot_by_kept Order.Change = refl
+  slot_by_kept (Err status) = refl
+  slot_by_kept (Ok Order.Select) = typed
+  slot_by_kept (Ok (Order.Page p)) = sized p
+  slot_by_kept (Ok (Order.Read at n)) = refl
+  slot_by_kept (Ok (Order.Counter n)) = refl
+  slot_by_kept (Ok (Order.Bits at n)) = refl
+  slot_by_kept (Ok (Order.Write at)) = refl
+  slot_by_kept (Ok (Order.Protect at)) = guarded _
+  slot_by_kept (Ok Order.Present) = either (λ (x : Slot). g x ≡ g s) _ (λ _. presented true _) (λ _. presented false _)
+  slot_by_kept (Ok Order.Change) = refl
 
 -- the card stays the same card, and the parameters stay
-pub slot_by_holds : (f : Facts) (s : Slot) (image b : List ℕ) (o : Order) → (slot_by f s image b o).holds ≡ s.holds
+pub slot_by_holds : (f : Facts) (s : Slot) (image b : List ℕ) (o : Result Order Status) → (slot_by f s image b o).holds ≡ s.holds
 slot_by_holds f s image b = slot_by_kept (λ (t : Slot). t.holds) f s image b refl (λ _. refl) (λ _ _. refl) (λ _. refl)
 
-pub slot_by_set : (f : Facts) (s : Slot) (image b : List ℕ) (o : Order) → (slot_by f s image b o).set ≡ s.set
+pub slot_by_set : (f : Facts) (s : Slot) (image b : List ℕ) (o : Result Order Status) → (slot_by f s image b o).set ≡ s.set
 slot_by_set f s image b = slot_by_kept (λ (t : Slot). t.set) f s image b refl (λ _. refl) (λ _ _. refl) (λ _. refl)
 
 -- the codes 03h..07h give page sizes
@@ -86,7 +90,7 @@ module _ (chip : Chip) (image image' : List ℕ) (same : (facts chip).coded ≡ 
   tries_same = alike (facts chip).coded (λ e. ap tries (same e)) (λ _. refl)
 
 module _ (chip : Chip) (s : Slot) (image d : List ℕ) (holds : s.holds ≡ Some chip) (on : s.active ≡ true) (card : IsCard (facts chip) image) (r : Sound s image) where
-  abbrev After : Order → Type 0
+  abbrev After : Result Order Status → Type 0
   After o = Sound (slot_by (facts chip) s image (body d) o) (image_by (facts chip) s image (body d) o)
 
   -- an image of this length has the number of protected bytes that the card has
@@ -94,7 +98,7 @@ module _ (chip : Chip) (s : Slot) (image d : List ℕ) (holds : s.holds ≡ Some
   counts_of im e = ap (λ (x : Option Chip). protected_of x im) holds ∙ protected_card chip im (e ∙ card.long)
 
   -- a changed image, and the number of protected bytes that it has then
-  moved : (o : Order) (n : ℕ) → Fit (facts chip) (body d) o → presents o ≡ false → n ≡ count_in (facts chip) (image_by (facts chip) s image (body d) o)
+  moved : (o : Result Order Status) (n : ℕ) → Fit (facts chip) (body d) o → presents o ≡ false → n ≡ count_in (facts chip) (image_by (facts chip) s image (body d) o)
       → Sound (protected_as n s) (image_by (facts chip) s image (body d) o)
   moved o n h ne counted =
       let im : List ℕ = image_by (facts chip) s image (body d) o in
@@ -118,7 +122,7 @@ module _ (chip : Chip) (s : Slot) (image d : List ℕ) (holds : s.holds ≡ Some
       go (inl h) = absurd (eqb-false _ _ e h)
       go (inr h) = h
 
-  presented : (facts chip).coded ≡ true → s.selected is 0 ≡ false → After Order.Present
+  presented : (facts chip).coded ≡ true → s.selected is 0 ≡ false → After (Ok Order.Present)
   unfolding slot_by image_by
   presented e t =
       let c : Coded (facts chip) = coded chip e in
@@ -126,7 +130,7 @@ module _ (chip : Chip) (s : Slot) (image d : List ℕ) (holds : s.holds ≡ Some
       let counts : Counted (tries_as (tries_in (facts chip) im) s) im =
       record {
         tries = sym (ap (λ (x : Option Chip). tries_of x im) holds ∙ tries_card chip im e);
-        protected = had ∙ sym (count_presented chip s image (body d)) ∙ sym (counts_of im (length_image_by (facts chip) s image (body d) Order.Present));
+        protected = had ∙ sym (count_presented chip s image (body d)) ∙ sym (counts_of im (length_image_by (facts chip) s image (body d) (Ok Order.Present)));
       } in
       either (λ (x : Slot). Sound x im) (right_code (facts chip) image (body d))
       (λ yes. opened_sound s image on r im _ counts
@@ -135,7 +139,7 @@ module _ (chip : Chip) (s : Slot) (image d : List ℕ) (holds : s.holds ≡ Some
       (chosen t))
       (λ no. closed_sound s image on r im _ counts)
 
-  pub decided_sound : {o : Order} → Decided (facts chip) s d o → After o
+  pub decided_sound : {o : Result Order Status} → Decided (facts chip) s d o → After o
   unfolding slot_by image_by ◌and◌
   decided_sound (refused status) = r
   decided_sound (through i at p) = go i at p
@@ -148,12 +152,12 @@ module _ (chip : Chip) (s : Slot) (image d : List ℕ) (holds : s.holds ≡ Some
       go Bits at p = r
       go Write at p =
           let h = fit_decided (facts chip) s d (through Write at p) in
-          moved (Order.Write at) s.protected h refl (had ∙ sym (count_written chip s image (body d) s.page at h.0))
-      go Protect at p = moved (Order.Protect at) _ (fit_decided (facts chip) s d (through Protect at p)) refl refl
+          moved (Ok (Order.Write at)) s.protected h refl (had ∙ sym (count_written chip s image (body d) s.page at h.0))
+      go Protect at p = moved (Ok (Order.Protect at)) _ (fit_decided (facts chip) s d (through Protect at p)) refl refl
       go Present at p = presented p.had p.ready
       go Change at p =
           let h = fit_decided (facts chip) s d (through Change at p) in
-          moved Order.Change s.protected h refl (had ∙ sym (count_changed chip s image (body d) h.1))
+          moved (Ok Order.Change) s.protected h refl (had ∙ sym (count_changed chip s image (body d) h.1))
       go Other at p = r
 
   -- a command of an active slot leaves a sound record

@@ -1,5 +1,6 @@
 -- The reader page is the one that the last successful 01 named; before any, 8, or 32 from the first successful A4 of a type 02h card on: over runs
 -- from the insertion on. Before any, a write to an I2C card of any size stores exactly the range that it names.
+use Rattle.std.specs.Prelude.{Result, Ok, Err}
 use Prim.Native.Nat.{ℕ, ◌+◌, ◌≤◌, ◌<◌}
 use mathlib.Core.Path.{◌≡◌, refl, sym, ap, ap₂, ◌∙◌, subst⁻¹}
 use mathlib.Core.Bool.{Bool, true, false, not, true≢false}
@@ -22,6 +23,7 @@ use Rattle.slot.specs.declared.Slot.{Slot}
 use Rattle.slot.specs.Slots.{page_for, page_after, removed}
 use Rattle.record.specs.Raw.{raw_of}
 use Rattle.record.proofs.Records.{flag_back}
+use Rattle.steps.specs.declared.Status.{Status}
 use Rattle.steps.specs.declared.Order.{Order}
 use Rattle.steps.specs.Steps.{order, body}
 use Rattle.orders.specs.Orders.{slot_by, performed, commanded}
@@ -63,18 +65,18 @@ record Moved (t : ℕ) (s : Slot) (turn : Turn) (now : Slot) : Type 0 where
   page : now.page ≡ page_to t s turn
   flag : now.chosen ≡ chosen_to s.chosen turn
 
-order_moves : (f : Facts) (s : Slot) (image b : List ℕ) (o : Order) → Moved f.selects s (turn_by o) (slot_by f s image b o)
+order_moves : (f : Facts) (s : Slot) (image b : List ℕ) (o : Result Order Status) → Moved f.selects s (turn_by o) (slot_by f s image b o)
 unfolding slot_by
-order_moves f s image b (Order.Refuse status) = record { page = refl; flag = refl }
-order_moves f s image b Order.Select = record { page = refl; flag = refl }
-order_moves f s image b (Order.Page p) = record { page = refl; flag = refl }
-order_moves f s image b (Order.Read at n) = record { page = refl; flag = refl }
-order_moves f s image b (Order.Counter n) = record { page = refl; flag = refl }
-order_moves f s image b (Order.Bits at n) = record { page = refl; flag = refl }
-order_moves f s image b (Order.Write at) = record { page = refl; flag = refl }
-order_moves f s image b (Order.Protect at) = record { page = refl; flag = refl }
-order_moves f s image b Order.Present = either (Moved f.selects s none) _ (λ _. record { page = refl; flag = refl }) (λ _. record { page = refl; flag = refl })
-order_moves f s image b Order.Change = record { page = refl; flag = refl }
+order_moves f s image b (Err status) = record { page = refl; flag = refl }
+order_moves f s image b (Ok Order.Select) = record { page = refl; flag = refl }
+order_moves f s image b (Ok (Order.Page p)) = record { page = refl; flag = refl }
+order_moves f s image b (Ok (Order.Read at n)) = record { page = refl; flag = refl }
+order_moves f s image b (Ok (Order.Counter n)) = record { page = refl; flag = refl }
+order_moves f s image b (Ok (Order.Bits at n)) = record { page = refl; flag = refl }
+order_moves f s image b (Ok (Order.Write at)) = record { page = refl; flag = refl }
+order_moves f s image b (Ok (Order.Protect at)) = record { page = refl; flag = refl }
+order_moves f s image b (Ok Order.Present) = either (Moved f.selects s none) _ (λ _. record { page = refl; flag = refl }) (λ _. record { page = refl; flag = refl })
+order_moves f s image b (Ok Order.Change) = record { page = refl; flag = refl }
 
 module _ (chip : Chip) (s : Slot) (image : List ℕ) (m : Sent) (holds : s.holds ≡ Some chip) where
   abbrev f : Facts

@@ -1,4 +1,5 @@
 -- What a message costs: equal codes sent twice cost two tries, and what no code reached the card by costs none.
+use Rattle.std.specs.Prelude.{Err}
 use Prim.Native.Nat.{ℕ, ◌-◌}
 use mathlib.Core.Path.{◌≡◌, refl, sym, ap, ◌∙◌, subst⁻¹}
 use mathlib.Core.Bool.{Bool, true, false}
@@ -144,5 +145,5 @@ module _ (f : Facts) (s : Slot) (image : List ℕ) (m : Sent) where
       go true h false t = untransferred_none t
       go true h true t = unreached_none f s image m (sym (and_holds h (and_holds t (sym e))))
 
-  pub refused_none : (status : Status) → order f s (apdu m.message) ≡ Order.Refuse status → event_of f s image m ≡ none
+  pub refused_none : (status : Status) → order f s (apdu m.message) ≡ Err status → event_of f s image m ≡ none
   refused_none status e = other_none (ap presents e)

@@ -1,5 +1,6 @@
 -- The counts of the slot record are the image's own, after an insertion and after every message that is answered; over runs from the insertion on
 -- tries left are demand 3's, and the number of protected bytes is the one that the card came with and what each D1 added.
+use Rattle.std.specs.Prelude.{Result, Ok, Err}
 use Prim.Native.Nat.{ℕ, zero, suc, ◌+◌, ◌-◌, ◌*◌, ◌/◌, ◌%◌, ◌≤◌, ◌<◌}
 use mathlib.Core.Path.{◌≡◌, refl, sym, ap, ap₂, ◌∙◌, subst, subst⁻¹}
 use mathlib.Core.Bool.{Bool, false, not}
@@ -30,6 +31,7 @@ use Rattle.counts.proofs.CardLaws.{tries_card, protected_card}
 use Rattle.card.proofs.ImageLaws.{IsCard}
 use Rattle.sound.proofs.SoundLaws.{sound_parts}
 use Rattle.record.specs.Raw.{raw_of}
+use Rattle.steps.specs.declared.Status.{Status}
 use Rattle.steps.specs.declared.Order.{Order}
 use Rattle.steps.specs.Steps.{order, body}
 use Rattle.steps.specs.Fits.{Fit}
@@ -172,18 +174,18 @@ module _ (chip : Chip) (s : Slot) (image : List ℕ) (holds : s.holds ≡ Some c
   abbrev g : Facts
   g = facts chip
 
-  order_adds : IsCard g image → (b : List ℕ) (o : Order) → Fit g b o → count_in g (image_by g s image b o) ≡ count_in g image + added_by g image b o
+  order_adds : IsCard g image → (b : List ℕ) (o : Result Order Status) → Fit g b o → count_in g (image_by g s image b o) ≡ count_in g image + added_by g image b o
   unfolding image_by
-  order_adds c b (Order.Refuse status) h = omega arith
-  order_adds c b Order.Select h = omega arith
-  order_adds c b (Order.Page p) h = omega arith
-  order_adds c b (Order.Read at n) h = omega arith
-  order_adds c b (Order.Counter n) h = omega arith
-  order_adds c b (Order.Bits at n) h = omega arith
-  order_adds c b (Order.Write at) h = omega (arith, count_written chip s image b s.page at h.0)
-  order_adds c b (Order.Protect at) h = protect_adds chip image at b (omega (arith, h.0, (laid chip).reached)) c.long
-  order_adds c b Order.Present h = omega (arith, count_presented chip s image b)
-  order_adds c b Order.Change h = omega (arith, count_changed chip s image b h.1)
+  order_adds c b (Err status) h = omega arith
+  order_adds c b (Ok Order.Select) h = omega arith
+  order_adds c b (Ok (Order.Page p)) h = omega arith
+  order_adds c b (Ok (Order.Read at n)) h = omega arith
+  order_adds c b (Ok (Order.Counter n)) h = omega arith
+  order_adds c b (Ok (Order.Bits at n)) h = omega arith
+  order_adds c b (Ok (Order.Write at)) h = omega (arith, count_written chip s image b s.page at h.0)
+  order_adds c b (Ok (Order.Protect at)) h = protect_adds chip image at b (omega (arith, h.0, (laid chip).reached)) c.long
+  order_adds c b (Ok Order.Present) h = omega (arith, count_presented chip s image b)
+  order_adds c b (Ok Order.Change) h = omega (arith, count_changed chip s image b h.1)
 
   module _ (m : Sent) where
     abbrev d : List ℕ

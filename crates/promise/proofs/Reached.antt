@@ -1,4 +1,5 @@
 -- What a message does to a code card: one that no code reached it by leaves the counter, and one that a code did is exactly a presented code.
+use Rattle.std.specs.Prelude.{Result, Ok}
 use Prim.Native.Nat.{ℕ}
 use mathlib.Core.Path.{◌≡◌, refl, ap, ◌∙◌, subst⁻¹}
 use mathlib.Core.Bool.{Bool, true, false, false≢true}
@@ -12,6 +13,7 @@ use Rattle.chips.specs.declared.Facts.{Facts}
 use Rattle.chips.specs.Kinds.{facts}
 use Rattle.chips.proofs.KindLaws.{coded}
 use Rattle.slot.specs.declared.Slot.{Slot}
+use Rattle.steps.specs.declared.Status.{Status}
 use Rattle.steps.specs.declared.Order.{Order}
 use Rattle.steps.specs.Steps.{order, body, presents}
 use Rattle.steps.proofs.PresentAgain.{presents_is}
@@ -68,13 +70,13 @@ module _ (chip : Chip) (s : Slot) (image : List ℕ) (m : Sent) (holds : s.holds
 
   -- a code that reaches the card is presented
   pub reached_does : reached (facts chip) s image m ≡ true
-      → sending s image m ≡ answered Transfer m.message None (performed (facts chip) s image (body apart) Order.Present)
+      → sending s image m ≡ answered Transfer m.message None (performed (facts chip) s image (body apart) (Ok Order.Present))
   unfolding reached
   reached_does e =
       let t = and_true _ _ e in
       let u = and_true _ _ t.1 in
       transfer_does t.0 (transfers_is _ u.0)
-      ∙ ap (λ (o : Order). answered Transfer m.message None (performed (facts chip) s image (body apart) o)) (presents_is _ u.1)
+      ∙ ap (λ (o : Result Order Status). answered Transfer m.message None (performed (facts chip) s image (body apart) o)) (presents_is _ u.1)
 
   -- what no code reached the card by leaves the counter
   deed_keeps : (r : Request) → (facts chip).coded ≡ true → (transfers r ≡ true → presents (order (facts chip) s apart) ≡ false)

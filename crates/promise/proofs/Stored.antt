@@ -1,5 +1,6 @@
 -- A D0 on a card with protection bits stores every unprotected byte of its range and leaves every other byte of the image; it is answered 90 00
 -- exactly where the range then reads back as the data, else 65 81. On a card without bits it is answered 90 00.
+use Rattle.std.specs.Prelude.{Result, Ok}
 use Prim.Native.Nat.{ℕ, suc, ◌+◌, ◌≤◌, ◌<◌}
 use mathlib.Core.Path.{◌≡◌, refl, sym, ap, ap₂, ◌∙◌, subst, subst⁻¹}
 use mathlib.Core.Bool.{Bool, true, false}
@@ -24,6 +25,7 @@ use Rattle.card.proofs.ImageLaws.{IsCard}
 use Rattle.record.specs.Raw.{raw_of}
 use Rattle.stores.specs.Stores.{storing, ends_equal}
 use Rattle.stores.proofs.StoreLaws.{ends_back, length_storing, byte_passed, byte_sent, byte_storing}
+use Rattle.steps.specs.declared.Status.{Status}
 use Rattle.steps.specs.declared.Order.{Order}
 use Rattle.steps.specs.Fits.{Fit}
 use Rattle.steps.proofs.Decisions.{order_fits}
@@ -74,8 +76,8 @@ module _ (chip : Chip) (s : Slot) (image : List ℕ) (m : Sent) (at : ℕ) (hold
   b = sent_by m
 
   -- what comes of it
-  pub write_does : sending s image m ≡ answered Transfer m.message None (performed f s image b (Order.Write at))
-  write_does = transfer_does chip s image m holds w.is_heard w.asked ∙ ap (λ (o : Order). answered Transfer m.message None (performed f s image b o)) w.ends
+  pub write_does : sending s image m ≡ answered Transfer m.message None (performed f s image b (Ok (Order.Write at)))
+  write_does = transfer_does chip s image m holds w.is_heard w.asked ∙ ap (λ (o : Result Order Status). answered Transfer m.message None (performed f s image b o)) w.ends
 
   pub write_card : IsCard f image
   write_card = proper_card chip s image holds (heard_proper s image m w.is_heard)

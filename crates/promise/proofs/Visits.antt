@@ -6,7 +6,7 @@ use Prim.Native.Nat.{ℕ}
 use lib.ListN.{replicate, take}
 use lib.IntN.{pos}
 use lib.Count.{ones}
-use Rattle.std.specs.Prelude.{Some}
+use Rattle.std.specs.Prelude.{Some, Ok}
 use Rattle.words.specs.Bounds.{least_room}
 use Rattle.codes.specs.Counters.{tries}
 use Rattle.chips.specs.declared.Chip.TheVariants.{Sle4428, Sle4442}
@@ -78,7 +78,7 @@ abbrev pub asks : Sent
 asks = record { message = read_counter; room = least_room }
 
 pub counter_asked : (heard burned.slot burned.image asks ≡ true) × (requested asks ≡ Transfer)
-    × (order (facts Sle4442) burned.slot (apdu read_counter) ≡ Order.Counter 4)
+    × (order (facts Sle4442) burned.slot (apdu read_counter) ≡ Ok (Order.Counter 4))
 unfolding rules image4442 lent transfer heard
 counter_asked = (refl, refl, refl)
 

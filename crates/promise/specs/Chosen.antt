@@ -2,11 +2,12 @@
 --
 -- "From now on a successful A4 with type 02h sets the reader page to 32, and with 01h to 8, unless command 01 has succeeded since insertion; a
 -- flag in the slot record says so."
-use Rattle.std.specs.Prelude.{ℕ, ◌≡◌, Bool, true, false, List, [], ◌∷◌}
+use Rattle.std.specs.Prelude.{ℕ, ◌≡◌, Bool, true, false, List, [], ◌∷◌, Result, Ok, Err}
 use Rattle.words.specs.Choice.{◌⇒◌⁏◌, ◌and◌, ◌is◌}
 use Rattle.words.specs.Bytes.{byte}
 use Rattle.chips.specs.declared.Facts.{Facts}
 use Rattle.slot.specs.declared.Slot.{Slot}
+use Rattle.steps.specs.declared.Status.{Status}
 use Rattle.steps.specs.declared.Order.{Order}
 use Rattle.steps.specs.Steps.{order}
 use Rattle.faults.specs.Faults.{apdu}
@@ -19,17 +20,17 @@ pub data Turn : Type 0 where
   selects : Turn
   names : ℕ → Turn
 
-abbrev pub turn_by : Order → Turn
-turn_by (Order.Refuse status) = none
-turn_by Order.Select = selects
-turn_by (Order.Page p) = names p
-turn_by (Order.Read at n) = none
-turn_by (Order.Counter n) = none
-turn_by (Order.Bits at n) = none
-turn_by (Order.Write at) = none
-turn_by (Order.Protect at) = none
-turn_by Order.Present = none
-turn_by Order.Change = none
+abbrev pub turn_by : Result Order Status → Turn
+turn_by (Err status) = none
+turn_by (Ok Order.Select) = selects
+turn_by (Ok (Order.Page p)) = names p
+turn_by (Ok (Order.Read at n)) = none
+turn_by (Ok (Order.Counter n)) = none
+turn_by (Ok (Order.Bits at n)) = none
+turn_by (Ok (Order.Write at)) = none
+turn_by (Ok (Order.Protect at)) = none
+turn_by (Ok Order.Present) = none
+turn_by (Ok Order.Change) = none
 
 unfoldable pub turn_of : Facts → Slot → List ℕ → Sent → Turn
 turn_of f s image m = heard s image m and transfers (requested m) ⇒ turn_by (order f s (apdu m.message)) ⁏ none

@@ -2,13 +2,14 @@
 --
 -- "The status screen shows tries left and number of protected bytes after each message, and it is handed the slot record only. Store both in
 -- the slot record and have insertion, removal, code presentation and D1 keep them true."
-use Rattle.std.specs.Prelude.{ℕ, zero, suc, ◌+◌, ◌*◌, ◌≡◌, Bool, true, false, not, List, [], ◌∷◌}
+use Rattle.std.specs.Prelude.{ℕ, zero, suc, ◌+◌, ◌*◌, ◌≡◌, Bool, true, false, not, List, [], ◌∷◌, Result, Ok, Err}
 use Rattle.words.specs.Choice.{◌⇒◌⁏◌, ◌and◌, ◌is◌}
 use Rattle.words.specs.Bytes.{byte}
 use Rattle.codes.specs.Counters.{tries}
 use Rattle.chips.specs.declared.Facts.{Facts}
 use Rattle.slot.specs.declared.Slot.{Slot}
 use Rattle.counts.specs.Counts.{tries_in, count_in}
+use Rattle.steps.specs.declared.Status.{Status}
 use Rattle.steps.specs.declared.Order.{Order}
 use Rattle.steps.specs.Steps.{order, body}
 use Rattle.faults.specs.Faults.{apdu}
@@ -33,17 +34,17 @@ newly f image k [] = 0
 newly f image k (v ∷ b) = one_new (byte image k) v (protected_in f image k) + newly f image (k + 1) b
 
 -- what an order, a message, a run of messages adds to it
-abbrev pub added_by : Facts → List ℕ → List ℕ → Order → ℕ
-added_by f image b (Order.Refuse status) = 0
-added_by f image b Order.Select = 0
-added_by f image b (Order.Page p) = 0
-added_by f image b (Order.Read at n) = 0
-added_by f image b (Order.Counter n) = 0
-added_by f image b (Order.Bits at n) = 0
-added_by f image b (Order.Write at) = 0
-added_by f image b (Order.Protect at) = newly f image at b
-added_by f image b Order.Present = 0
-added_by f image b Order.Change = 0
+abbrev pub added_by : Facts → List ℕ → List ℕ → Result Order Status → ℕ
+added_by f image b (Err status) = 0
+added_by f image b (Ok Order.Select) = 0
+added_by f image b (Ok (Order.Page p)) = 0
+added_by f image b (Ok (Order.Read at n)) = 0
+added_by f image b (Ok (Order.Counter n)) = 0
+added_by f image b (Ok (Order.Bits at n)) = 0
+added_by f image b (Ok (Order.Write at)) = 0
+added_by f image b (Ok (Order.Protect at)) = newly f image at b
+added_by f image b (Ok Order.Present) = 0
+added_by f image b (Ok Order.Change) = 0
 
 unfoldable pub added : Facts → Slot → List ℕ → Sent → ℕ
 added f s image m =

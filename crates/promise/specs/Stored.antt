@@ -2,7 +2,7 @@
 --
 -- "Store every unprotected byte of the range and pass over the rest. The storing routine now reports whether each byte of the range ended
 -- equal to the one sent, and everything above it takes that report."
-use Rattle.std.specs.Prelude.{ℕ, ◌+◌, ◌-◌, ◌≡◌, Bool, true, not, List, [], ◌∷◌, length, take, drop, leb, ltb}
+use Rattle.std.specs.Prelude.{ℕ, ◌+◌, ◌-◌, ◌≡◌, Bool, true, not, List, [], ◌∷◌, length, take, drop, leb, ltb, Ok}
 use Rattle.words.specs.Choice.{◌⇒◌⁏◌, ◌and◌, ◌means◌, ◌is◌}
 use Rattle.words.specs.Bytes.{byte, same}
 use Rattle.chips.specs.declared.Facts.{Facts}
@@ -22,7 +22,7 @@ use Rattle.promise.specs.Protected.{protected_in}
 pub record Writes (f : Facts) (s : Slot) (image : List ℕ) (m : Sent) (at : ℕ) : Type 0 where
   pub is_heard : heard s image m ≡ true
   pub asked : requested m ≡ Transfer
-  pub ends : order f s (apdu m.message) ≡ Order.Write at
+  pub ends : order f s (apdu m.message) ≡ Ok (Order.Write at)
 
 -- the bytes that it sends
 abbrev pub sent_by : Sent → List ℕ

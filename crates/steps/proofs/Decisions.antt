@@ -1,5 +1,6 @@
 -- The decision taken apart once: an order refuses, or every step let the command through; its converse; and what an order that is let
 -- through may count on.
+use Rattle.std.specs.Prelude.{Result, Ok, Err}
 use Prim.Native.Nat.{ℕ, ◌+◌, ◌^◌, ◌≤◌, ◌<◌}
 use mathlib.Core.Path.{◌≡◌, refl, sym, ap, ap₂, ◌∙◌}
 use mathlib.Core.List.{List}
@@ -15,18 +16,19 @@ use Rattle.words.proofs.Choices.{past, either, rest, and_true, or_true}
 use Rattle.chips.specs.declared.Facts.{Facts}
 use Rattle.slot.specs.declared.Slot.{Slot}
 use Rattle.steps.specs.declared.Status.{Status}
-use Rattle.steps.specs.declared.Ranged.{Ranged}
 use Rattle.steps.specs.declared.Order.{Order}
 use Rattle.steps.specs.Fits.{Fit, Short}
-use Rattle.steps.specs.Steps.{Ins, Select, Page, Read, Counter, Bits, Write, Protect, Present, Change, Other, ins_of, p1p2, p3, body, meant, top, known}
+use Rattle.steps.specs.declared.Ins.{Ins}
+use Rattle.steps.specs.declared.Ins.TheVariants.{Select, Page, Read, Counter, Bits, Write, Protect, Present, Change, Other}
+use Rattle.steps.specs.Steps.{ins_of, p1p2, p3, body, meant, top, known}
 use Rattle.steps.specs.Steps.{needs_type, has, following, length_fits, place_fits, range_test, place_of, value_fits, needs_open, ordered, reaching, steps, order}
-use Rattle.steps.proofs.StepLaws.{Past3, Past8, past3, past4_ready, past5, past6, past_p3, past7, past8, past9_ready}
+use Rattle.steps.proofs.StepLaws.{choices}
 
 -- the range test answers the address that it took, where it fits
-pub ranged_at : (f : Facts) (i : Ins) (a n : ℕ) {at : ℕ} → range_test f i a n ≡ Ranged.At at → (a ≡ at) × (place_fits f i a n ≡ true)
+pub ranged_at : (f : Facts) (i : Ins) (a n : ℕ) {at : ℕ} → range_test f i a n ≡ Ok at → (a ≡ at) × (place_fits f i a n ≡ true)
 unfolding range_test
 ranged_at f i a n {at} e =
-    either (λ (r : Ranged). r ≡ Ranged.At at → (a ≡ at) × (place_fits f i a n ≡ true)) (place_fits f i a n)
+    either (λ (r : Result ℕ Status). r ≡ Ok at → (a ≡ at) × (place_fits f i a n ≡ true)) (place_fits f i a n)
     (λ t q. (cc, t))
     (λ _ q. absurd (let z : ◌≡◌ {A = ℕ} 0 1 = cc in omega arith)) e
 
@@ -34,7 +36,7 @@ ranged_at f i a n {at} e =
 abbrev ins_in : List ℕ → Ins
 ins_in d = ins_of (byte d 1)
 
-abbrev place_in : Facts → List ℕ → Ranged
+abbrev place_in : Facts → List ℕ → Result ℕ Status
 place_in f d = place_of f (ins_in d) (p1p2 d) (p3 d)
 
 -- every step passed, INS meaning i and the address being `at`
@@ -47,7 +49,7 @@ pub record Passed (f : Facts) (s : Slot) (d : List ℕ) (i : Ins) (at : ℕ) : T
   pub had : has f i ≡ true
   pub long : length d ≡ 5 + following i (p3 d)
   pub measured : length_fits f i (p3 d) ≡ true
-  pub ranged : place_in f d ≡ Ranged.At at
+  pub ranged : place_in f d ≡ Ok at
   pub valued : value_fits f i (byte d 5) ≡ true
   pub allowed : needs_open i and f.coded and not s.«open» ≡ false
 
@@ -57,18 +59,18 @@ placed {f} {s} {d} {i} {at} q =
     let r = ranged_at f (meant f (ins_in d)) (top f (ins_in d) + p1p2 d) (p3 d) q.ranged in
     (r.0, ap₂ (λ (j : Ins) (a : ℕ). place_fits f j a (p3 d)) (sym q.ins) (sym r.0) ∙ r.1)
 
-pub data Decided (f : Facts) (s : Slot) (d : List ℕ) : Order → Type 0 where
-  refused : (status : Status) → Decided f s d (Order.Refuse status)
+pub data Decided (f : Facts) (s : Slot) (d : List ℕ) : Result Order Status → Type 0 where
+  refused : (status : Status) → Decided f s d (Err status)
   through : (i : Ins) (at : ℕ) → Passed f s d i at → Decided f s d (ordered i at (p3 d) (byte d 5))
 
 -- steps 7 to 9: an address, and the rest of the steps; or none
-decided_from7 : (f : Facts) (s : Slot) (d : List ℕ) (r : Ranged)
-    → ((at : ℕ) → r ≡ Ranged.At at → value_fits f (meant f (ins_in d)) (byte d 5) ≡ true
+decided_from7 : (f : Facts) (s : Slot) (d : List ℕ) (r : Result ℕ Status)
+    → ((at : ℕ) → r ≡ Ok at → value_fits f (meant f (ins_in d)) (byte d 5) ≡ true
     → needs_open (meant f (ins_in d)) and f.coded and not s.«open» ≡ false → Passed f s d (meant f (ins_in d)) at)
     → Decided f s d (reaching f s (p3 d) (byte d 5) (meant f (ins_in d)) r)
 unfolding reaching
-decided_from7 f s d Ranged.Outside q = refused Status.Place
-decided_from7 f s d (Ranged.At at) q =
+decided_from7 f s d (Err status) q = refused status
+decided_from7 f s d (Ok at) q =
     past (Decided f s d) _ (refused Status.Value) (λ e8.
     past (Decided f s d) _ (refused Status.Denied) (λ e9.
     through (meant f (ins_in d)) at (q at refl (not-false _ e8) e9)))
@@ -105,14 +107,10 @@ order_on f s d h e = rest _ _ (le-ltb (length d) 5 h) ∙ rest _ _ (ap not (eq-e
 
 -- the converse: passing every step gives the order
 pub passed_order : {f : Facts} {s : Slot} {d : List ℕ} {i : Ins} {at : ℕ} → Passed f s d i at → order f s d ≡ ordered i at (p3 d) (byte d 5)
+unfolding steps reaching
 passed_order {f} {s} {d} {i} {at} q =
-    let n : ℕ = length d in
-    let on : Past3 f s n (p3 d) i (place_in f d) = past3 q.is_known in
-    let taken : Past8 f s n (p3 d) i (place_in f d) at (byte d 5) =
-    past8 (past7 (past_p3 (past6 (past5 (past4_ready on q.ready) q.had) q.long) q.measured) q.ranged) (byte d 5) q.valued in
-    order_on f s d q.five q.class
-    ∙ ap (λ (j : Ins). steps f s n (p3 d) (byte d 5) j (place_in f d)) q.ins
-    ∙ sym (past9_ready taken q.allowed)
+    order_on f s d q.five q.class ∙ ap (λ (j : Ins). steps f s (length d) (p3 d) (byte d 5) j (place_in f d)) q.ins
+    ∙ grind (arith, choices, q.is_known, q.ready, q.had, q.long, q.measured, q.ranged, q.valued, q.allowed)
 
 body_length : (d : List ℕ) (n : ℕ) → length d ≡ 5 + n → length (body d) ≡ n
 body_length d n e = omega (arith, length-drop 5 d)
@@ -151,7 +149,7 @@ module _ (f : Facts) (s : Slot) (d : List ℕ) where
   fit_passed Change at p = ((and_true _ _ p.had).0, body_length d (p3 d) p.long ∙ eqb-true _ _ p.measured)
   fit_passed Other at p = tt
 
-  pub fit_decided : {o : Order} → Decided f s d o → Fit f (body d) o
+  pub fit_decided : {o : Result Order Status} → Decided f s d o → Fit f (body d) o
   fit_decided (refused status) = tt
   fit_decided (through i at p) = fit_passed i at p
 
@@ -171,7 +169,7 @@ module _ (f : Facts) (s : Slot) (d : List ℕ) where
   short_passed h Change at = tt
   short_passed h Other at = tt
 
-  short_decided : p3 d < 256 → {o : Order} → Decided f s d o → Short o
+  short_decided : p3 d < 256 → {o : Result Order Status} → Decided f s d o → Short o
   short_decided h (refused status) = tt
   short_decided h (through i at p) = short_passed h i at
 
@@ -180,10 +178,10 @@ module _ (f : Facts) (s : Slot) (d : List ℕ) where
   order_short h = short_decided h (decided f s d)
 
 -- the numbers of the pseudo-APDU, and what the range test answered, are those that the steps were given
-pub order_at : (f : Facts) (s : Slot) (d : List ℕ) (p v : ℕ) (i : Ins) (ranged : Ranged) {r : Order} → 5 ≤ length d → byte d 0 ≡ 0xFF
+pub order_at : (f : Facts) (s : Slot) (d : List ℕ) (p v : ℕ) (i : Ins) (ranged : Result ℕ Status) {r : Result Order Status} → 5 ≤ length d → byte d 0 ≡ 0xFF
     → p ≡ p3 d → v ≡ byte d 5 → meant f (ins_of (byte d 1)) ≡ i → ranged ≡ place_of f (ins_of (byte d 1)) (p1p2 d) (p3 d)
     → r ≡ steps f s (length d) p v i ranged → r ≡ order f s d
 order_at f s d p v i ranged h e a b k t q =
     q ∙ ap₂ (λ (n m : ℕ). steps f s (length d) n m i ranged) a b
-    ∙ ap₂ (λ (j : Ins) (x : Ranged). steps f s (length d) (p3 d) (byte d 5) j x) (sym k) t
+    ∙ ap₂ (λ (j : Ins) (x : Result ℕ Status). steps f s (length d) (p3 d) (byte d 5) j x) (sym k) t
     ∙ sym (order_on f s d h e)

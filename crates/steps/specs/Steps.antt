@@ -1,12 +1,13 @@
 -- "Commands inside 6Fh": nine steps from the pseudo-APDU to an order. 01 has a tenth; 02: "step 10 goes".
-use Rattle.std.specs.Prelude.{ℕ, ◌+◌, ◌*◌, ◌^◌, Bool, true, false, not, List, ◌∷◌, [], length, drop, ltb, leb}
+use Rattle.std.specs.Prelude.{ℕ, ◌+◌, ◌*◌, ◌^◌, Bool, true, false, not, List, ◌∷◌, [], length, drop, ltb, leb, Result, Ok, Err}
 use Rattle.words.specs.Choice.{◌⇒◌⁏◌, ◌and◌, ◌or◌, ◌is◌, ◌isnt◌}
 use Rattle.words.specs.Bytes.{byte}
 use Rattle.words.specs.Bounds.{addresses}
 use Rattle.chips.specs.declared.Facts.{Facts}
 use Rattle.slot.specs.declared.Slot.{Slot}
 use Rattle.steps.specs.declared.Status.{Status}
-use Rattle.steps.specs.declared.Ranged.{Ranged}
+use Rattle.steps.specs.declared.Ins.{Ins}
+use Rattle.steps.specs.declared.Ins.TheVariants.{Select, Page, Read, Counter, Bits, Write, Protect, Present, Change, Other}
 use Rattle.steps.specs.declared.Order.{Order}
 
 -- the status words that refuse a command
@@ -20,18 +21,6 @@ word_of Status.Value = 0x6A ∷ 0x80 ∷ []
 word_of Status.Denied = 0x69 ∷ 0x82 ∷ []
 
 -- INS: A4 01 B0 B1 B2 D0 D1 20 D2, or another byte
-pub data Ins : Type 0 where
-  Select : Ins
-  Page : Ins
-  Read : Ins
-  Counter : Ins
-  Bits : Ins
-  Write : Ins
-  Protect : Ins
-  Present : Ins
-  Change : Ins
-  Other : Ins
-
 unfoldable pub ins_of : ℕ → Ins
 ins_of b =
     b is 0xA4 ⇒ Select
@@ -169,11 +158,11 @@ place_fits f Change at n = at is 1
 place_fits f Other at n = false
 
 -- 02: "The range test now takes and answers a 17-bit address"
-unfoldable pub range_test : Facts → Ins → ℕ → ℕ → Ranged
-range_test f i at n = place_fits f i at n ⇒ Ranged.At at ⁏ Ranged.Outside
+unfoldable pub range_test : Facts → Ins → ℕ → ℕ → Result ℕ Status
+range_test f i at n = place_fits f i at n ⇒ Ok at ⁏ Err Status.Place
 
 -- from INS, P1P2 and P3 to the address, or the refusal
-abbrev pub place_of : Facts → Ins → ℕ → ℕ → Ranged
+abbrev pub place_of : Facts → Ins → ℕ → ℕ → Result ℕ Status
 place_of f i at n = range_test f (meant f i) (top f i + at) n
 
 -- step 8: "A4 with a type not the card's; 01 with a code outside 03h..07h"
@@ -203,52 +192,52 @@ needs_open Change = true
 needs_open Other = false
 
 -- what is left is done; "01: page 8, 16, 32, 64, 128 for 03h..07h"
-abbrev pub ordered : Ins → ℕ → ℕ → ℕ → Order
-ordered Select at n v = Order.Select
-ordered Page at n v = Order.Page (2 ^ v)
-ordered Read at n v = Order.Read at n
-ordered Counter at n v = Order.Counter n
-ordered Bits at n v = Order.Bits at n
-ordered Write at n v = Order.Write at
-ordered Protect at n v = Order.Protect at
-ordered Present at n v = Order.Present
-ordered Change at n v = Order.Change
-ordered Other at n v = Order.Refuse Status.Instruction
+abbrev pub ordered : Ins → ℕ → ℕ → ℕ → Result Order Status
+ordered Select at n v = Ok Order.Select
+ordered Page at n v = Ok (Order.Page (2 ^ v))
+ordered Read at n v = Ok (Order.Read at n)
+ordered Counter at n v = Ok (Order.Counter n)
+ordered Bits at n v = Ok (Order.Bits at n)
+ordered Write at n v = Ok (Order.Write at)
+ordered Protect at n v = Ok (Order.Protect at)
+ordered Present at n v = Ok Order.Present
+ordered Change at n v = Ok Order.Change
+ordered Other at n v = Err Status.Instruction
 
 -- steps 7 to 9: outside is 6B 00; at an address the rest decide
-unfoldable pub reaching : Facts → Slot → ℕ → ℕ → Ins → Ranged → Order
-reaching f s p v i Ranged.Outside = Order.Refuse Status.Place
-reaching f s p v i (Ranged.At at) =
-    not (value_fits f i v) ⇒ Order.Refuse Status.Value
-    ⁏ needs_open i and f.coded and not s.«open» ⇒ Order.Refuse Status.Denied
+unfoldable pub reaching : Facts → Slot → ℕ → ℕ → Ins → Result ℕ Status → Result Order Status
+reaching f s p v i (Err status) = Err status
+reaching f s p v i (Ok at) =
+    not (value_fits f i v) ⇒ Err Status.Value
+    ⁏ needs_open i and f.coded and not s.«open» ⇒ Err Status.Denied
     ⁏ ordered i at p v
 
 -- steps 3 to 9, INS meaning i: n is the data length, p is P3, v the byte after it, and the range test has made `ranged` of INS, P1P2 and P3
-unfoldable pub steps : Facts → Slot → ℕ → ℕ → ℕ → Ins → Ranged → Order
+unfoldable pub steps : Facts → Slot → ℕ → ℕ → ℕ → Ins → Result ℕ Status → Result Order Status
 steps f s n p v i ranged =
-    not (known i) ⇒ Order.Refuse Status.Instruction
-    ⁏ needs_type i and s.selected is 0 ⇒ Order.Refuse Status.Unselected
-    ⁏ not (has f i) ⇒ Order.Refuse Status.Instruction
-    ⁏ n isnt (5 + following i p) ⇒ Order.Refuse Status.Length
-    ⁏ not (length_fits f i p) ⇒ Order.Refuse Status.Length
+    not (known i) ⇒ Err Status.Instruction
+    ⁏ needs_type i and s.selected is 0 ⇒ Err Status.Unselected
+    ⁏ not (has f i) ⇒ Err Status.Instruction
+    ⁏ n isnt (5 + following i p) ⇒ Err Status.Length
+    ⁏ not (length_fits f i p) ⇒ Err Status.Length
     ⁏ reaching f s p v i ranged
 
 -- all nine: "n below 5: 67 00", "first byte not FFh: 6E 00", and the rest
-unfoldable pub order : Facts → Slot → List ℕ → Order
+unfoldable pub order : Facts → Slot → List ℕ → Result Order Status
 order f s d =
-    ltb (length d) 5 ⇒ Order.Refuse Status.Length
-    ⁏ byte d 0 isnt 0xFF ⇒ Order.Refuse Status.Class
+    ltb (length d) 5 ⇒ Err Status.Length
+    ⁏ byte d 0 isnt 0xFF ⇒ Err Status.Class
     ⁏ let i = ins_of (byte d 1) in steps f s (length d) (p3 d) (byte d 5) (meant f i) (place_of f i (p1p2 d) (p3 d))
 
 -- "steps 1 to 10 let its command 20 through"; 02: "step 10 goes"
-abbrev pub presents : Order → Bool
-presents (Order.Refuse status) = false
-presents Order.Select = false
-presents (Order.Page p) = false
-presents (Order.Read at n) = false
-presents (Order.Counter n) = false
-presents (Order.Bits at n) = false
-presents (Order.Write at) = false
-presents (Order.Protect at) = false
-presents Order.Present = true
-presents Order.Change = false
+abbrev pub presents : Result Order Status → Bool
+presents (Err status) = false
+presents (Ok Order.Select) = false
+presents (Ok (Order.Page p)) = false
+presents (Ok (Order.Read at n)) = false
+presents (Ok (Order.Counter n)) = false
+presents (Ok (Order.Bits at n)) = false
+presents (Ok (Order.Write at)) = false
+presents (Ok (Order.Protect at)) = false
+presents (Ok Order.Present) = true
+presents (Ok Order.Change) = false

@@ -1,5 +1,6 @@
 -- Our reader with a part replaced (specs/Wrong) is our reader where the part put in is the rules' own. So a wrong reader that is made this way is
 -- wrong by the part that its definition names, and by nothing else.
+use Rattle.std.specs.Prelude.{Result, Ok, Err}
 use Prim.Native.Nat.{ℕ, ◌+◌, ◌-◌}
 use mathlib.Core.Path.{◌≡◌, refl, sym, ap, ap₂, ◌∙◌, subst⁻¹}
 use mathlib.Core.Bool.{Bool, true, false, not, true≢false}
@@ -20,7 +21,8 @@ use Rattle.counts.specs.Counts.{put_in}
 use Rattle.card.specs.Images.{is_card}
 use Rattle.steps.specs.declared.Status.{Status}
 use Rattle.steps.specs.declared.Order.{Order}
-use Rattle.steps.specs.Steps.{Ins, ins_of, p1p2, p3, body, meant, top, ordered, order}
+use Rattle.steps.specs.declared.Ins.{Ins}
+use Rattle.steps.specs.Steps.{ins_of, p1p2, p3, body, meant, top, ordered, order}
 use Rattle.steps.proofs.Decisions.{Decided, refused, through, decided, placed}
 use Rattle.stores.specs.Stores.{storing}
 use Rattle.sound.specs.Sound.{image_is_card, sound}
@@ -167,7 +169,7 @@ commanding_ours does e s i m room = commanding_on_lem s.holds does s i m room re
 pub rowed_ours : Ours (rowed (λ f. f))
 rowed_ours = commanding_ours _ (λ f s i d. refl)
 
-pub ordering_ours : (orders : Facts → Slot → List ℕ → List ℕ → Order)
+pub ordering_ours : (orders : Facts → Slot → List ℕ → List ℕ → Result Order Status)
     → ((f : Facts) (s : Slot) (i d : List ℕ) → orders f s i d ≡ order f s d) → Ours (ordering orders)
 unfolding commanded
 ordering_ours orders e = commanding_ours _ (λ f s i d. ap (performed f s i (body d)) (e f s i d))
@@ -191,7 +193,7 @@ at_right_ours = commanding_ours _ (λ f s i d. same_choice _ (same_choice _ refl
 
 -- ---- D0
 -- a refusal is not let through
-refusal_kept : {A : Type 0} (status : Status) → lets (Order.Refuse status) ≡ true → A
+refusal_kept : {A : Type 0} (status : Status) → lets (Err status) ≡ true → A
 unfolding same
 refusal_kept Status.Length e = no_test e refl
 refusal_kept Status.Class e = no_test e refl
@@ -202,11 +204,11 @@ refusal_kept Status.Value e = no_test e refl
 refusal_kept Status.Denied e = no_test e refl
 
 -- a D0 that is let through is a write from its address on
-let_writes : (f : Facts) (s : Slot) (d : List ℕ) → byte d 1 is 0xD0 and lets (order f s d) ≡ true → order f s d ≡ Order.Write (p1p2 d)
+let_writes : (f : Facts) (s : Slot) (d : List ℕ) → byte d 1 is 0xD0 and lets (order f s d) ≡ true → order f s d ≡ Ok (Order.Write (p1p2 d))
 unfolding ins_of ◌⇒◌⁏◌
 let_writes f s d h = go (decided f s d) (and_true _ _ h).1
   where
-    go : {o : Order} → Decided f s d o → lets o ≡ true → o ≡ Order.Write (p1p2 d)
+    go : {o : Result Order Status} → Decided f s d o → lets o ≡ true → o ≡ Ok (Order.Write (p1p2 d))
     go (refused status) e = refusal_kept status e
     go (through i at p) e =
         let b : ins_of (byte d 1) ≡ ins_of 0xD0 = ap ins_of (eqb-true (byte d 1) 0xD0 (and_true _ _ h).0) in
@@ -215,7 +217,7 @@ let_writes f s d h = go (decided f s d) (and_true _ _ h).1
 
 -- so it does what the rules say of one
 let_does : (f : Facts) (s : Slot) (i d : List ℕ) → byte d 1 is 0xD0 and lets (order f s d) ≡ true
-    → commanded f s i d ≡ performed f s i (body d) (Order.Write (p1p2 d))
+    → commanded f s i d ≡ performed f s i (body d) (Ok (Order.Write (p1p2 d)))
 unfolding commanded
 let_does f s i d h = ap (performed f s i (body d)) (let_writes f s d h)
 
@@ -225,7 +227,7 @@ storing_ours = commanding_ours _ (λ f s i d.
     let stored : List ℕ = storing f.bits f.covered i (p1p2 d) (body d) in
     either (λ (x : Deed). x ≡ commanded f s i d) _
     (λ h. subst⁻¹ (λ (e : Deed). (f.page isnt 0 ⇒ e ⁏ tells (written_word f stored (p1p2 d) (body d)) (leaves stored e)) ≡ e) (let_does f s i d h)
-    (either (λ (x : Deed). x ≡ performed f s i (body d) (Order.Write (p1p2 d))) _
+    (either (λ (x : Deed). x ≡ performed f s i (body d) (Ok (Order.Write (p1p2 d)))) _
     (λ _. refl)
     (λ z. ap (λ (l : List ℕ). record { said = written_word f l (p1p2 d) (body d); slot = s; image = l }) (sym (rest _ _ z)))))
     (λ _. refl))

@@ -1,5 +1,5 @@
 -- Wrong readers: what one is, and our reader with one part put wrong. A wrong reader is a definition as short as its fault is in words.
-use Rattle.std.specs.Prelude.{ℕ, ◌+◌, ◌-◌, Bool, true, false, not, List, [], ◌∷◌, ◌++◌, length, take, drop, set, ltb, Option, Some, None}
+use Rattle.std.specs.Prelude.{ℕ, ◌+◌, ◌-◌, Bool, true, false, not, List, [], ◌∷◌, ◌++◌, length, take, drop, set, ltb, Result, Ok, Err}
 use Rattle.words.specs.Choice.{◌⇒◌⁏◌, ◌and◌, ◌or◌, ◌is◌, ◌isnt◌}
 use Rattle.words.specs.Bytes.{byte, same, four_bytes}
 use Rattle.codes.specs.Codes.{code_in}
@@ -10,9 +10,9 @@ use Rattle.sets.specs.Sets.{set_of}
 use Rattle.slot.specs.declared.Slot.{Slot}
 use Rattle.counts.specs.Counts.{put_in}
 use Rattle.steps.specs.declared.Status.{Status}
-use Rattle.steps.specs.declared.Ranged.{Ranged}
 use Rattle.steps.specs.declared.Order.{Order}
-use Rattle.steps.specs.Steps.{Ins, word_of, ins_of, p1p2, p3, body, meant, top, place_of, ordered, steps, order}
+use Rattle.steps.specs.declared.Ins.{Ins}
+use Rattle.steps.specs.Steps.{word_of, ins_of, p1p2, p3, body, meant, top, place_of, ordered, steps, order}
 use Rattle.sound.specs.Sound.{sound}
 use Rattle.std.specs.Prelude.{Option, Some, None, is_some, option_map}
 use Rattle.faults.specs.declared.Fault.{Fault}
@@ -185,30 +185,30 @@ placed counter code bits covered f = record {
 }
 
 -- the order that steps 1 to 9 end in is found by `orders`
-abbrev pub ordered_by : (Facts → Slot → List ℕ → List ℕ → Order) → Doer
+abbrev pub ordered_by : (Facts → Slot → List ℕ → List ℕ → Result Order Status) → Doer
 ordered_by orders f s image d = performed f s image (body d) (orders f s image d)
 
-abbrev pub ordering : (Facts → Slot → List ℕ → List ℕ → Order) → Reader
+abbrev pub ordering : (Facts → Slot → List ℕ → List ℕ → Result Order Status) → Reader
 ordering orders = commanding (ordered_by orders)
 
 -- the status word of a refusal; none where the command is let through
-abbrev pub refusal : Order → List ℕ
-refusal (Order.Refuse status) = word_of status
-refusal Order.Select = []
-refusal (Order.Page p) = []
-refusal (Order.Read at n) = []
-refusal (Order.Counter n) = []
-refusal (Order.Bits at n) = []
-refusal (Order.Write at) = []
-refusal (Order.Protect at) = []
-refusal Order.Present = []
-refusal Order.Change = []
+abbrev pub refusal : Result Order Status → List ℕ
+refusal (Err status) = word_of status
+refusal (Ok Order.Select) = []
+refusal (Ok (Order.Page p)) = []
+refusal (Ok (Order.Read at n)) = []
+refusal (Ok (Order.Counter n)) = []
+refusal (Ok (Order.Bits at n)) = []
+refusal (Ok (Order.Write at)) = []
+refusal (Ok (Order.Protect at)) = []
+refusal (Ok Order.Present) = []
+refusal (Ok Order.Change) = []
 
 -- the command is refused with this word; it is let through
-abbrev pub refuses : Status → Order → Bool
+abbrev pub refuses : Status → Result Order Status → Bool
 refuses status o = same (refusal o) (word_of status)
 
-abbrev pub lets : Order → Bool
+abbrev pub lets : Result Order Status → Bool
 lets o = same (refusal o) []
 
 -- what INS of a pseudo-APDU means on a card, and the address, with the top bit that INS carries
@@ -219,13 +219,13 @@ abbrev pub address : Facts → List ℕ → ℕ
 address f d = top f (ins_of (byte d 1)) + p1p2 d
 
 -- what INS means is found by `means`, and its place by `finds`, of the card and the pseudo-APDU
-abbrev pub placed_by : (Facts → List ℕ → Ins) → (Facts → List ℕ → Ranged) → Doer
+abbrev pub placed_by : (Facts → List ℕ → Ins) → (Facts → List ℕ → Result ℕ Status) → Doer
 placed_by means finds = ordered_by λ f s image d.
-    ltb (length d) 5 ⇒ Order.Refuse Status.Length
-    ⁏ byte d 0 isnt 0xFF ⇒ Order.Refuse Status.Class
+    ltb (length d) 5 ⇒ Err Status.Length
+    ⁏ byte d 0 isnt 0xFF ⇒ Err Status.Class
     ⁏ steps f s (length d) (p3 d) (byte d 5) (means f d) (finds f d)
 
-abbrev pub place_in : Facts → List ℕ → Ranged
+abbrev pub place_in : Facts → List ℕ → Result ℕ Status
 place_in f d = place_of f (ins_of (byte d 1)) (p1p2 d) (p3 d)
 
 -- A test on a command: of the card, the slot, the image and the pseudo-APDU.
@@ -236,7 +236,7 @@ Test = Facts → Slot → List ℕ → List ℕ → Bool
 unfoldable pub sooner : Status → Test → Status → Reader
 sooner earlier test later = ordering λ f s image d.
     let o = order f s d in
-    refuses earlier o and test f s image d ⇒ Order.Refuse later
+    refuses earlier o and test f s image d ⇒ Err later
     ⁏ o
 
 -- what the rules refuse with a word is done where the test holds
@@ -250,7 +250,7 @@ letting status test = ordering λ f s image d.
 unfoldable pub barring : Status → Test → Reader
 barring status test = ordering λ f s image d.
     let o = order f s d in
-    lets o and test f s image d ⇒ Order.Refuse status
+    lets o and test f s image d ⇒ Err status
     ⁏ o
 
 -- a command with this INS that steps 1 to 9 let through does something else: what the twist makes of its deed

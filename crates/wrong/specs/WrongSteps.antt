@@ -1,5 +1,5 @@
 -- Wrong readers of steps 1 to 9: a step in another place, a step left out or off by one, another status word.
-use Rattle.std.specs.Prelude.{ℕ, ◌+◌, ◌-◌, ◌*◌, Bool, not, List, [], ◌∷◌, ◌++◌, length, take, set, leb, ltb}
+use Rattle.std.specs.Prelude.{ℕ, ◌+◌, ◌-◌, ◌*◌, Bool, not, List, [], ◌∷◌, ◌++◌, length, take, set, leb, ltb, Err}
 use Rattle.words.specs.Choice.{◌⇒◌⁏◌, ◌and◌, ◌or◌, ◌is◌, ◌isnt◌}
 use Rattle.words.specs.Bytes.{byte, same}
 use Rattle.codes.specs.Codes.{code_in, spending}
@@ -7,7 +7,8 @@ use Rattle.chips.specs.declared.Facts.{Facts}
 use Rattle.slot.specs.Slots.{selecting, opened, closed}
 use Rattle.steps.specs.declared.Status.{Status}
 use Rattle.steps.specs.declared.Order.{Order}
-use Rattle.steps.specs.Steps.{Write, p1p2, p3, body, known, has, following, length_fits, place_fits, value_fits, needs_open, order}
+use Rattle.steps.specs.declared.Ins.TheVariants.{Write}
+use Rattle.steps.specs.Steps.{p1p2, p3, body, known, has, following, length_fits, place_fits, value_fits, needs_open, order}
 use Rattle.orders.specs.Orders.{done, commanded}
 use Rattle.wrong.specs.Wrong.{Reader, Doer, Test, ins, address, tells, stands, leaves, commanding, ordered_by, ordering, refuses, lets, sooner, letting, barring, counter_of, counting}
 
@@ -58,7 +59,7 @@ takes_four = ordering λ f s image d. order f s (length d is 4 ⇒ d ++ (0x00 �
 
 -- takes no command of five bytes
 abbrev pub refuses_five : Reader
-refuses_five = ordering λ f s image d. length d is 5 ⇒ Order.Refuse Status.Length ⁏ order f s d
+refuses_five = ordering λ f s image d. length d is 5 ⇒ Err Status.Length ⁏ order f s d
 
 -- takes any first byte
 abbrev pub any_class : Reader

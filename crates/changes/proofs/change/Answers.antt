@@ -1,5 +1,5 @@
 -- `change` meets its contract: the code is stored, and 90 00 is said.
-use mathlib.Core.Path.{refl, ap, ◌∙◌}
+use mathlib.Core.Path.{ap, ◌∙◌}
 use native.Mathlib.Omega.{arith}
 use lib.Seq.{sets}
 use Rattle.words.proofs.Lists.{over_pair}
@@ -16,8 +16,8 @@ unfolding performed said_by image_by slot_by
 returns c =
     let a = c.args in
     record {
-      len = c.put_two-len.ensures.0;
-      slot = refl;
+      len = c.done.ensures.0;
+      slot = c.done.ensures.1;
       image = c.store.ensures ∙ ap (λ (f : Facts). sets a.image.now f.code a.code.now) c.facts.ensures;
-      out = c.put_two-len.ensures.1 ∙ over_pair a.out.now 0x90 0x00 (omega arith);
+      out = c.done.ensures.2 ∙ over_pair a.out.now 0x90 0x00 (omega arith);
     }

@@ -87,18 +87,18 @@ returns-then-opens c =
     let on = goal.at.returns-then-opens c in
     record {
       len = c.put_two-len.ensures.0;
-      slot = c.open-next.ensures ∙ ap opened (counted on.After-with_tries-counted) ∙ taken _ (right on.After-present-opens ∙ c.if-opens.true);
+      slot = c.open-slot.ensures ∙ ap opened (counted on.After-with_tries-counted) ∙ taken _ (right on.After-present-opens ∙ c.if-opens.true);
       image = code_after on.After-present-opens;
       out = said on.After-put_two-len;
     }
 
-pub returns : goal.returns
+pub returns-else-opens : goal.returns-else-opens
 unfolding performed said_by image_by slot_by
-returns c =
-    let on = goal.at.returns c in
+returns-else-opens c =
+    let on = goal.at.returns-else-opens c in
     record {
       len = c.put_two-len.ensures.0;
-      slot = c.close-next.ensures ∙ ap closed (counted on.After-with_tries-counted) ∙ passed _ (right on.After-present-opens ∙ c.if-opens.false) refl;
+      slot = c.close-slot.ensures ∙ ap closed (counted on.After-with_tries-counted) ∙ passed _ (right on.After-present-opens ∙ c.if-opens.false) refl;
       image = code_after on.After-present-opens;
       out = said on.After-put_two-len;
     }

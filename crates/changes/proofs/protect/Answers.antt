@@ -70,8 +70,8 @@ unfolding performed said_by image_by slot_by
 returns c =
     let a = c.args in
     record {
-      len = c.put_two-len.ensures.0;
-      slot = c.with_protected-next.ensures ∙ ap (λ (n : ℕ). protected_as n a.slot) (counted (goal.at.returns c).After-protect-more);
+      len = c.done.ensures.0;
+      slot = c.done.ensures.1 ∙ c.with_protected-next.ensures ∙ ap (λ (n : ℕ). protected_as n a.slot) (counted (goal.at.returns c).After-protect-more);
       image = image_after (goal.at.returns c).After-protect-more;
-      out = c.put_two-len.ensures.1 ∙ over_pair a.out.now 0x90 0x00 (omega (arith, c.requires.0));
+      out = c.done.ensures.2 ∙ over_pair a.out.now 0x90 0x00 (omega (arith, c.requires.0));
     }

@@ -33,10 +33,10 @@ returns-then-write_bytes c =
     let said : done ≡ word (goal.at.returns-then-write_bytes c).After-write_bytes = taken _
     (report (goal.at.returns-then-write_bytes c).After-write_bytes ∙ c.if-write_bytes.true) in
     record {
-      len = c.put_two-len.ensures.0 ∙ ap length said;
-      slot = refl;
+      len = c.done.ensures.0 ∙ ap length said;
+      slot = c.done.ensures.1;
       image = c.write_bytes.ensures.image;
-      out = c.put_two-len.ensures.1 ∙ over_pair a.out.now 0x90 0x00 (omega arith) ∙ ap (λ (l : List ℕ). over l a.out.now) said;
+      out = c.done.ensures.2 ∙ over_pair a.out.now 0x90 0x00 (omega arith) ∙ ap (λ (l : List ℕ). over l a.out.now) said;
     }
 
 pub returns : goal.returns
@@ -45,8 +45,8 @@ returns c =
     let a = c.args in
     let said : unequal ≡ word (goal.at.returns c).After-write_bytes = passed _ (report (goal.at.returns c).After-write_bytes ∙ c.if-write_bytes.false) refl in
     record {
-      len = c.put_two-len-2.ensures.0 ∙ ap length said;
+      len = c.put_two-len.ensures.0 ∙ ap length said;
       slot = refl;
       image = c.write_bytes.ensures.image;
-      out = c.put_two-len-2.ensures.1 ∙ over_pair a.out.now 0x65 0x81 (omega arith) ∙ ap (λ (l : List ℕ). over l a.out.now) said;
+      out = c.put_two-len.ensures.1 ∙ over_pair a.out.now 0x65 0x81 (omega arith) ∙ ap (λ (l : List ℕ). over l a.out.now) said;
     }

@@ -10,6 +10,7 @@ use Rattle.chips.specs.Kinds.{facts}
 use Rattle.chips.proofs.KindLaws.{laid}
 use Rattle.reads.specs.Reads.{bytes_read}
 use Rattle.reads.proofs.ReadLaws.{length_bytes_read}
+use Rattle.std.specs.Prelude.{Ok}
 use Rattle.steps.specs.declared.Order.{Order}
 use Rattle.orders.specs.Orders.{said_by, image_by, slot_by}
 use Rattle.orders.proofs.Tells.{does_tell}
@@ -36,5 +37,5 @@ returns c b =
     ∙ ap (λ (x : Facts). over (bytes_read x.code c.facts-2.result.digits a.slot.«open» a.image.now a.at a.n)
     a.out.now) code
     ∙ ap (λ (x : Facts). over (bytes_read f.code x.digits a.slot.«open» a.image.now a.at a.n) a.out.now) digits in
-    does_tell f a.slot a.image.now b (Order.Read a.at a.n) d a.n refl refl refl long (omega arith) shown
-    c.put_two-len.ensures.0 refl c.put_two-len.ensures.1
+    does_tell f a.slot a.image.now b (Ok (Order.Read a.at a.n)) d a.n refl refl refl long (omega arith) shown
+    c.done.ensures.0 c.done.ensures.1 c.done.ensures.2

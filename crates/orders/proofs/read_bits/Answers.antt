@@ -9,6 +9,7 @@ use Rattle.chips.specs.Kinds.{facts}
 use Rattle.chips.proofs.KindLaws.{laid}
 use Rattle.bits.specs.Bits.{packed_bytes}
 use Rattle.bits.proofs.PackLaws.{length_packed_bytes}
+use Rattle.std.specs.Prelude.{Ok}
 use Rattle.steps.specs.declared.Order.{Order}
 use Rattle.orders.specs.Orders.{said_by, image_by, slot_by}
 use Rattle.orders.proofs.Tells.{does_tell}
@@ -29,5 +30,5 @@ returns c b =
     let told : c.read_bits.new.out ≡ over d a.out.now =
     c.read_bits.ensures
     ∙ ap₂ (λ (x y : ℕ). over (packed_bytes x y a.image.now a.at a.n) a.out.now) c.protection.ensures.0 c.protection.ensures.1 in
-    does_tell f a.slot a.image.now b (Order.Bits a.at a.n) d a.n refl refl refl long (omega arith) told
-    c.put_two-len.ensures.0 refl c.put_two-len.ensures.1
+    does_tell f a.slot a.image.now b (Ok (Order.Bits a.at a.n)) d a.n refl refl refl long (omega arith) told
+    c.done.ensures.0 c.done.ensures.1 c.done.ensures.2

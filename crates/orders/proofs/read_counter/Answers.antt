@@ -9,6 +9,7 @@ use Rattle.chips.specs.declared.Facts.{Facts}
 use Rattle.chips.specs.Kinds.{facts}
 use Rattle.reads.specs.Reads.{counter_read}
 use Rattle.reads.proofs.ReadLaws.{length_counter_read}
+use Rattle.std.specs.Prelude.{Ok}
 use Rattle.steps.specs.declared.Order.{Order}
 use Rattle.orders.specs.Orders.{said_by, image_by, slot_by}
 use Rattle.orders.proofs.Tells.{does_tell}
@@ -27,5 +28,5 @@ returns c b =
     let told : c.read_counter.new.out ≡ over d a.out.now =
     c.read_counter.ensures
     ∙ ap (λ (x : Facts). over (counter_read x.counter a.image.now a.n) a.out.now) c.facts.ensures in
-    does_tell f a.slot a.image.now b (Order.Counter a.n) d a.n refl refl refl long (omega arith) told
-    c.put_two-len.ensures.0 refl c.put_two-len.ensures.1
+    does_tell f a.slot a.image.now b (Ok (Order.Counter a.n)) d a.n refl refl refl long (omega arith) told
+    c.done.ensures.0 c.done.ensures.1 c.done.ensures.2

@@ -11,8 +11,8 @@ pub returns : goal.returns
 unfolding performed said_by image_by slot_by
 returns c =
     λ image b. record {
-      len = c.put_two-len.ensures.0;
-      slot = c.select-next.ensures ∙ ap (λ (f : Facts). selecting f.selects c.args.slot) c.facts.ensures;
+      len = c.done.ensures.0;
+      slot = c.done.ensures.1 ∙ c.select.ensures ∙ ap (λ (f : Facts). selecting f.selects c.args.slot) c.facts.ensures;
       image = refl;
-      out = c.put_two-len.ensures.1 ∙ over_pair c.args.out.now 0x90 0x00 (omega arith);
+      out = c.done.ensures.2 ∙ over_pair c.args.out.now 0x90 0x00 (omega arith);
     }

@@ -9,8 +9,8 @@ pub returns : goal.returns
 unfolding performed said_by image_by slot_by
 returns c =
     λ f image b. record {
-      len = c.put_two-len.ensures.0;
-      slot = c.set_page-next.ensures;
+      len = c.done.ensures.0;
+      slot = c.done.ensures.1 ∙ c.set_page.ensures;
       image = refl;
-      out = c.put_two-len.ensures.1 ∙ over_pair c.args.out.now 0x90 0x00 (omega arith);
+      out = c.done.ensures.2 ∙ over_pair c.args.out.now 0x90 0x00 (omega arith);
     }
