@@ -42,8 +42,7 @@ fn judge(image: &mut [u8], counter: usize, full: u8, code: usize, guess: &[u8]) 
     ensures { (result ≡ same guess.now (code_in code (length guess.now) image.old))
         × (image.new ≡ judging counter full code (length guess.now) image.old guess.now) }
 {
-    let end = code + guess.len();
-    if same_bytes(guess, &image[code..end]) {
+    if same_bytes(guess, &image[code..code + guess.len()]) {
         image[counter] = full;
         return true;
     }

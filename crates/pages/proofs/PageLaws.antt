@@ -13,7 +13,8 @@ use lib.Dec.{eqb}
 use borrow.Author.Tests.{eqb-true, eqb-false, ne_eqb}
 use Rattle.words.specs.Choice.{◌⇒◌⁏◌, ◌is◌}
 use Rattle.words.proofs.Choices.{either, rest}
-use Rattle.words.proofs.Lists.{mod_next, empty_list}
+use Rattle.std.proofs.lemmas.List.{nil_from_length}
+use Rattle.words.proofs.Lists.{mod_next}
 use Rattle.pages.specs.Pages.{cut_start, lands, page_write}
 
 -- ---- any pages
@@ -111,7 +112,7 @@ module _ (reader chip : ℕ) where
 
   pub write_end : (image : List ℕ) (c a : ℕ) (vs : List ℕ) → length vs ≡ 0 → page_write reader chip image c a vs ≡ image
   unfolding page_write
-  write_end image c a vs e = ap (page_write reader chip image c a) (empty_list vs e)
+  write_end image c a vs e = ap (page_write reader chip image c a) (nil_from_length vs e)
 
 -- ---- the reader page divides the chip page
 module _ (reader chip : ℕ) (some : 0 < reader) (whole : reader ∣ chip) (room : 0 < chip) where

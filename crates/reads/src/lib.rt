@@ -16,8 +16,7 @@ fn read(image: &[u8], at: usize, n: usize, out: &mut [u8])
     requires { (at + n ≤ length image.now) × (n ≤ length out.old) }
     ensures { out.new ≡ over (take n (drop at image.now)) out.old }
 {
-    let end = at + n;
-    lay(&image[at..end], out);
+    lay(&image[at..at + n], out);
 }
 
 // The n image bytes from `code` on read 00h in a buffer that holds the image from `at` up to `end`. Of a `fill` the compiler would make a call of memset.

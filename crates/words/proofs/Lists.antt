@@ -8,12 +8,14 @@ use native.Mathlib.Nat.{add_comm, zero-add, not-suc-le-zero, le_of_suc-le-suc, a
 use native.Mathlib.Numerals.{add-one}
 use native.Mathlib.Omega.{arith}
 use lib.ListN.{length, take, drop, set, get_or, length-append, length-drop, drop_of_length-le, take-append-drop}
-use lib.Seq.{length-take-le, set_at, drop-cons, drop-drop, drop_at, append_snoc, take_at, take_all, take-append_seam, sets, get_or-set_other}
-use lib.Seq.{sets-eq, get_or-append-add, get_or-drop, take-add, take-length}
-use lib.Dec.{ltb, eqb}
+use lib.Seq.{length-take-le, set_at, drop-cons, drop-drop, drop_at, append_snoc, take_at, take-append_seam, sets, get_or-set_other}
+use lib.Seq.{sets-eq, get_or-append-add, get_or-drop, take-length}
+use lib.Dec.{eqb}
 use Rattle.std.specs.Cmp.Lexicographic.{pointwise}
 use borrow.Rule.Slice.PartMut.{put_mid}
-use borrow.Author.Tests.{eq-eqb, ne_eqb, eqb-true, ltb-true, ltb-false}
+use borrow.Author.Tests.{eq-eqb, ne_eqb, eqb-true}
+use Rattle.std.proofs.lemmas.List.{take_rest, nil_from_length}
+use Rattle.std.proofs.lemmas.Slice.{between_is}
 use Rattle.words.specs.Choice.{◌and◌, ◌is◌}
 use Rattle.words.specs.Bytes.{byte, blank, same, four_at, over, series}
 use Rattle.words.proofs.Choices.{and_fails, and_holds, and_true, and_end, both}
@@ -189,7 +191,7 @@ series_at f k (suc n) (suc j) h =
 
 -- ---- the tail `&s[k..]`, as the borrow checker has it: `take (length s - k) (drop k s)`
 pub tail_is : (k : ℕ) (a : List ℕ) → take (length a - k) (drop k a) ≡ drop k a
-tail_is k a = take_all (length a - k) (drop k a) (omega (arith, length-drop k a))
+tail_is k a = take_rest a k
 
 -- `&mut a[k..]` was lent and came back as y: what a holds
 pub lent_back : (k : ℕ) (a : List ℕ) (y : List ℕ) → put_mid k (length a - k) a y ≡ take k a ++ y
@@ -232,11 +234,7 @@ sets_snoc l i (w ∷ vs) v = sets_snoc (set l i w) (suc i) vs v ∙ ap (λ (n : 
 -- ---- parts
 -- what is left of the first k behind the first s
 pub drop_take : (s k : ℕ) (l : List ℕ) → s ≤ k → k ≤ length l → drop s (take k l) ≡ take (k - s) (drop s l)
-drop_take s k l h w =
-    let e : k ≡ s + (k - s) = omega arith in
-    ap (λ (n : ℕ). drop s (take n l)) e
-    ∙ ap (drop s) (take-add s (k - s) l)
-    ∙ drop_at (take s l) (take (k - s) (drop s l)) s (length-take-le s l (omega arith))
+drop_take s k l h w = sym (between_is l s k)
 
 -- ---- the same bytes
 and_is : (a b : Bool) → (a && b) ≡ a and b
@@ -300,22 +298,11 @@ byte_blank l i h = all_blank (drop i l) (λ k. get_or-drop i l k 0 ∙ h (i + k)
 
 -- ---- lengths
 pub empty_list : (l : List ℕ) → length l ≡ 0 → l ≡ []
-empty_list [] e = refl
-empty_list (x ∷ l) e = absurd (omega (arith, e))
+empty_list l e = nil_from_length l e
 
 -- a list cut to no more than it has is cut the same
-min_by : (b : Bool) (n m : ℕ) (l : List ℕ) → ltb n m ≡ b → length l ≡ m → take (min n m) l ≡ take n l
-min_by true n m l h e =
-    let k : n < m = ltb-true n m h in
-    let q : min n m ≡ n = omega arith in
-    ap (λ (i : ℕ). take i l) q
-min_by false n m l h e =
-    let k : m ≤ n = ltb-false n m h in
-    let q : min n m ≡ m = omega arith in
-    ap (λ (i : ℕ). take i l) q ∙ take_all m l (omega arith) ∙ sym (take_all n l (omega arith))
-
 pub take_min : (n m : ℕ) (l : List ℕ) → length l ≡ m → take (min n m) l ≡ take n l
-take_min n m l e = min_by (ltb n m) n m l refl e
+take_min n m l e = ap (λ (k : ℕ). take (min n k) l) (sym e) ∙ Rattle.std.proofs.lemmas.List.take_min n l
 
 -- ---- the first four bytes
 pub first_four : (l : List ℕ) → 4 ≤ length l → take 4 l ≡ byte l 0 ∷ byte l 1 ∷ byte l 2 ∷ byte l 3 ∷ []
