@@ -3,7 +3,7 @@
 // The rules are written in specs/Bits.antt.
 #![tactic(auto)]
 
-ghost use Rattle.std.specs.Prelude.{◌≡◌, ◌+◌, ◌-◌, ◌*◌, ◌/◌, ◌%◌, ◌^◌, ◌≤◌, ◌<◌, length, IfSome};
+ghost use Rattle.std.specs.Prelude.{◌≡◌, ◌+◌, ◌*◌, ◌/◌, ◌%◌, ◌^◌, ◌≤◌, ◌<◌, length, IfSome};
 ghost use Rattle.words.specs.Bounds.{addresses};
 ghost use Rattle.words.specs.Bytes.{byte, over};
 ghost use Rattle.bits.specs.Bits.{bit_of, cleared, protected_count, is_protected, first_protected, protecting, protect_equal, packed_bytes};
