@@ -53,7 +53,11 @@ scanned x small = go (eqb x 255) refl
 pub ones_scanned : (b i : ℕ) → b < 256 → i < 8 → OnesFrom b i (trailing_ones w8 (b / 2 ^ i))
 ones_scanned b i small h =
     let s = scanned (b / 2 ^ i) (omega (arith, div-le_self b (2 ^ i))) in
-    record { within = go s (leb (i + trailing_ones w8 (b / 2 ^ i)) 8) refl; ones = λ j l. sym (bit_shifted b i j) ∙ s.ones j l; none = λ e. omega (arith, s.none e, bit_shifted b i 0) }
+    record {
+      within = go s (leb (i + trailing_ones w8 (b / 2 ^ i)) 8) refl;
+      ones = λ j l. sym (bit_shifted b i j) ∙ s.ones j l;
+      none = λ e. omega (arith, s.none e, bit_shifted b i 0);
+    }
   where
     go : Scanned (b / 2 ^ i) (trailing_ones w8 (b / 2 ^ i)) → (t : Bool) → leb (i + trailing_ones w8 (b / 2 ^ i)) 8 ≡ t → i + trailing_ones w8 (b / 2 ^ i) ≤ 8
     go s true e = leb-true _ _ e
@@ -100,7 +104,8 @@ module _ (bits covered : ℕ) (image : List ℕ) where
         few = omega arith;
         free = λ j l.
             let q : bits + (k + j) / 8 ≡ bits + k / 8 + ((k + j) / 8 - k / 8) = omega arith in
-            one_free bits covered image (k + j) (ap (λ (m : ℕ). bit_of m ((k + j) % 8)) (ap (byte image) q ∙ four_full image (bits + k / 8) small e ((k + j) / 8 - k / 8) (omega arith))
+            one_free bits covered image (k + j)
+            (ap (λ (m : ℕ). bit_of m ((k + j) % 8)) (ap (byte image) q ∙ four_full image (bits + k / 8) small e ((k + j) / 8 - k / 8) (omega arith))
             ∙ bit_full ((k + j) % 8) (omega arith));
         none = λ z. absurd (omega arith);
       }
