@@ -125,7 +125,8 @@ module _ (bits covered : ℕ) where
       one ne = either (λ (x : List ℕ). protection_bit bits covered x k ≡ protection_bit bits covered image k) _ (λ _. bit_protecting image at k ne) (λ _. refl)
 
   -- what leaves the byte that a bit stands in leaves the bit
-  pub bit_same : (image image' : List ℕ) (k : ℕ) → byte image' (bits + k / 8) ≡ byte image (bits + k / 8) → protection_bit bits covered image' k ≡ protection_bit bits covered image k
+  pub bit_same : (image image' : List ℕ) (k : ℕ) → byte image' (bits + k / 8) ≡ byte image (bits + k / 8)
+      → protection_bit bits covered image' k ≡ protection_bit bits covered image k
   unfolding protection_bit
   bit_same image image' k e = ap (λ (n : ℕ). ltb k covered ⇒ bit_of n (k % 8) ⁏ 1) e
 

@@ -1,18 +1,17 @@
 -- Laws of a scan by trailing ones: those of a byte from any bit on, and the unprotected bytes that the ones of a protection byte, and of
 -- four that are FFh, are.
-use mathlib.Core.Path.{◌≡◌, refl, sym, ap, ap₂, subst⁻¹, ◌∙◌}
+use mathlib.Core.Path.{◌≡◌, refl, sym, ap, ap₂, ◌∙◌}
 use mathlib.Core.List.{List}
 use mathlib.Core.Bool.{Bool, true, false}
 use Prim.Native.Nat.{ℕ, ◌+◌, ◌-◌, ◌/◌, ◌%◌, ◌^◌, ◌≤◌, ◌<◌}
 use native.Mathlib.Nat.{div-div-eq-div-mul, div-le_self}
 use Rattle.std.specs.Int.{trailing_ones}
-use Rattle.std.proofs.Common.{w8}
+use Rattle.std.proofs.Common.{w32}
 use Rattle.std.proofs.lemmas.Nat.Bits.{bit_at-trailing_ones}
 use native.Mathlib.Omega.{arith}
-use lib.Count.{count_trailing_zeros}
-use lib.Dec.{eqb, leb, ltb}
+use lib.Dec.{leb, ltb}
 use lib.Pow.{pow-add}
-use borrow.Author.Tests.{eqb-true, eqb-false, leb-true, leb-false, ltb-true, ltb-false}
+use borrow.Author.Tests.{eqb-true, leb-true, leb-false, ltb-true, ltb-false}
 use Rattle.words.specs.Choice.{◌and◌, ◌is◌}
 use Rattle.words.specs.Bytes.{byte, four_at}
 use Rattle.words.proofs.Lists.{four_full}
@@ -30,36 +29,23 @@ bit_full : (j : ℕ) → j < 8 → bit_of 255 j ≡ 1
 unfolding all_below ◌and◌
 bit_full j h = eqb-true _ _ (each_below (λ (i : ℕ). bit_of 255 i is 1) 8 refl j h)
 
--- n is how many ones x has from its lowest bit on, and it is a byte
-record Scanned (x n : ℕ) : Type 0 where
-  few : n ≤ 8
-  ones : (j : ℕ) → j < n → bit_of x j ≡ 1
-  none : n ≡ 0 → bit_of x 0 ≡ 0
-
-scanned_full : Scanned 255 (trailing_ones w8 255)
-unfolding count_trailing_zeros
-scanned_full = record { few = omega arith; ones = bit_full; none = λ z. absurd (omega arith) }
-
-scanned : (x : ℕ) → x < 256 → Scanned x (trailing_ones w8 x)
-scanned x small = go (eqb x 255) refl
-  where
-    go : (b : Bool) → eqb x 255 ≡ b → Scanned x (trailing_ones w8 x)
-    go false e =
-        let t = bit_at-trailing_ones w8 x (omega (arith, eqb-false x 255 e)) in
-        record { few = omega (arith, t.0); ones = t.2; none = λ z. ap (bit_of x) (sym z) ∙ t.1 }
-    go true e = subst⁻¹ (λ (y : ℕ). Scanned y (trailing_ones w8 y)) (eqb-true x 255 e) scanned_full
-
--- and from any bit on
-pub ones_scanned : (b i : ℕ) → b < 256 → i < 8 → OnesFrom b i (trailing_ones w8 (b / 2 ^ i))
+-- those of a byte from bit i on, as of a number that has room for a 0 behind them
+pub ones_scanned : (b i : ℕ) → b < 256 → i < 8 → OnesFrom b i (trailing_ones w32 (b / 2 ^ i))
 ones_scanned b i small h =
-    let s = scanned (b / 2 ^ i) (omega (arith, div-le_self b (2 ^ i))) in
-    record { within = go s (leb (i + trailing_ones w8 (b / 2 ^ i)) 8) refl; ones = λ j l. sym (bit_shifted b i j) ∙ s.ones j l; none = λ e. omega (arith, s.none e, bit_shifted b i 0) }
+    let x : ℕ = b / 2 ^ i in
+    let t = bit_at-trailing_ones w32 x (omega (arith, div-le_self b (2 ^ i))) in
+    record {
+      within = go t.2 (leb (i + trailing_ones w32 x) 8) refl;
+      ones = λ j l. sym (bit_shifted b i j) ∙ t.2 j l;
+      none = λ e. sym (bit_shifted b i 0 ∙ ap (bit_of b) (omega arith)) ∙ ap (bit_of x) (sym e) ∙ t.1;
+    }
   where
-    go : Scanned (b / 2 ^ i) (trailing_ones w8 (b / 2 ^ i)) → (t : Bool) → leb (i + trailing_ones w8 (b / 2 ^ i)) 8 ≡ t → i + trailing_ones w8 (b / 2 ^ i) ≤ 8
-    go s true e = leb-true _ _ e
-    go s false e =
+    go : ((j : ℕ) → j < trailing_ones w32 (b / 2 ^ i) → bit_of (b / 2 ^ i) j ≡ 1) → (t : Bool) → leb (i + trailing_ones w32 (b / 2 ^ i)) 8 ≡ t
+        → i + trailing_ones w32 (b / 2 ^ i) ≤ 8
+    go ones true e = leb-true _ _ e
+    go ones false e =
         let end : i + (8 - i) ≡ 8 = omega arith in
-        absurd (omega (arith, s.ones (8 - i) (omega (arith, leb-false _ _ e)), bit_shifted b i (8 - i), ap (bit_of b) end))
+        absurd (omega (arith, ones (8 - i) (omega (arith, leb-false _ _ e)), bit_shifted b i (8 - i), ap (bit_of b) end))
 
 -- ---- a byte whose bit is 1 is not protected
 module _ (bits covered : ℕ) (image : List ℕ) where
@@ -100,7 +86,8 @@ module _ (bits covered : ℕ) (image : List ℕ) where
         few = omega arith;
         free = λ j l.
             let q : bits + (k + j) / 8 ≡ bits + k / 8 + ((k + j) / 8 - k / 8) = omega arith in
-            one_free bits covered image (k + j) (ap (λ (m : ℕ). bit_of m ((k + j) % 8)) (ap (byte image) q ∙ four_full image (bits + k / 8) small e ((k + j) / 8 - k / 8) (omega arith))
+            one_free bits covered image (k + j)
+            (ap (λ (m : ℕ). bit_of m ((k + j) % 8)) (ap (byte image) q ∙ four_full image (bits + k / 8) small e ((k + j) / 8 - k / 8) (omega arith))
             ∙ bit_full ((k + j) % 8) (omega arith));
         none = λ z. absurd (omega arith);
       }

@@ -3,7 +3,7 @@
 // The rules are written in specs/Bits.antt.
 #![tactic(auto)]
 
-ghost use Rattle.std.specs.Prelude.{◌≡◌, ◌+◌, ◌-◌, ◌*◌, ◌/◌, ◌%◌, ◌^◌, ◌≤◌, ◌<◌, length, IfSome};
+ghost use Rattle.std.specs.Prelude.{◌≡◌, ◌+◌, ◌*◌, ◌/◌, ◌%◌, ◌^◌, ◌≤◌, ◌<◌, length, IfSome};
 ghost use Rattle.words.specs.Bounds.{addresses};
 ghost use Rattle.words.specs.Bytes.{byte, over};
 ghost use Rattle.bits.specs.Bits.{bit_of, cleared, protected_count, is_protected, first_protected, protecting, protect_equal, packed_bytes};
@@ -20,12 +20,12 @@ fn clear(b: u8, i: usize) -> u8
     b & !(1u8 << i)
 }
 
-// How many bits from bit i on are 1, up to the first 0 or the byte's end.
+// How many bits from bit i on are 1, up to the first 0 or the byte's end: in a wider number a 0 stands behind it.
 fn ones_from(b: u8, i: usize) -> usize
     requires { i < 8 }
     ensures { OnesFrom b i result }
 {
-    (b >> i).trailing_ones() as usize
+    (b as u32 >> i).trailing_ones() as usize
 }
 
 // The lower eight of nine bytes, low first, once they are moved down by less than a byte: eight are `low`, the ninth is `high`.

@@ -1,4 +1,4 @@
--- `ones_from` meets its contract: the byte's ones are the zeros below the lowest one bit of what is left of 255.
+-- `ones_from` meets its contract: wider than a byte, the number that is moved down has a 0 behind the byte's ones.
 use native.Mathlib.Omega.{arith}
 use Rattle.bits.proofs.ScanLaws.{ones_scanned}
 use Rattle.bits.proofs.ones_from.Goals as goal
