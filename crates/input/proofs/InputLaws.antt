@@ -1,7 +1,7 @@
 -- Laws of the input: the unused bytes slide to the front, what is read stands behind them, and a reading that wants more leaves room for it.
 use mathlib.Core.Path.{◌≡◌, sym, ap, ◌∙◌, subst}
 use mathlib.Core.Bool.{true, false, false≢true}
-use mathlib.Core.List.{List, [], ◌++◌, append-nil, append_assoc}
+use mathlib.Core.List.{List, ◌++◌, append_assoc}
 use Prim.Native.Nat.{ℕ, ◌+◌, ◌-◌, ◌≤◌, ◌<◌}
 use native.Mathlib.Omega.{arith}
 use lib.ListN.{length, take, drop, length-drop}
@@ -9,8 +9,8 @@ use lib.Seq.{length-take-le, take-take, take-add, drop-drop, drop-append_seam}
 use Rattle.std.specs.Prelude.{Ok, Err}
 use Rattle.std.specs.declared.option.Option.{Option}
 use Rattle.std.specs.Io.KnownBytes.{Consumes}
-use Rattle.std.proofs.KnownBytes.{Consumes-nil, Consumes-trans}
-use Rattle.std.proofs.lemmas.List.{drop_all, drop-append-le, length-append}
+use Rattle.std.proofs.KnownBytes.{Consumes-trans}
+use Rattle.std.proofs.lemmas.List.{drop-append-le, length-append}
 use Rattle.words.specs.Bounds.{longest_record}
 use Rattle.words.specs.Bytes.{over}
 use Rattle.words.proofs.Lists.{front_laid, drop_take}
@@ -22,9 +22,6 @@ use Rattle.input.specs.Input.{part, wants, behind, Grows, Brings}
 use Rattle.input.specs.declared.Brought.{Brought}
 
 -- ---- what is unused
-pub grows_none : (l : List ℕ) → Grows l l
-grows_none l = record { came = []; grown = sym (append-nil l) }
-
 pub grows_more : {a b c : List ℕ} → Grows a b → Grows b c → Grows a c
 grows_more {a} f g = record { came = f.came ++ g.came; grown = g.grown ∙ ap (λ (t : List ℕ). t ++ g.came) f.grown ∙ append_assoc a f.came g.came }
 
@@ -51,11 +48,7 @@ module _ (at end : ℕ) (l read : List ℕ) {slid : List ℕ} (w : end ≤ lengt
   more_part got = record { came = take got (drop (end - at) read); grown = more_is got }
 
 -- ---- what is taken from the reader
--- nothing yet
-pub taken_none : (a : Option (List ℕ)) (at end : ℕ) (l : List ℕ) → end ≤ length l → Consumes a a (drop (end - at) (part l at end))
-taken_none a at end l w = rw (drop_all (end - at) (part l at end) (omega (arith, length_part at end l w))) (Consumes-nil a)
-
--- and more, behind the unused bytes, which are as many as those of the start and more
+-- more, behind the unused bytes, which are as many as those of the start and more
 pub taken_more : (a b c : Option (List ℕ)) (at end : ℕ) (l more : List ℕ) {u u' : List ℕ} → end ≤ length l → Grows (part l at end) u
     → u' ≡ u ++ more → Consumes a b (drop (end - at) u) → Consumes b c more → Consumes a c (drop (end - at) u')
 taken_more a b c at end l more {u} {u'} w g e p q =

@@ -22,6 +22,7 @@ pub struct Brought {
 }
 
 // A reader, and whether a read of it failed. Its input counts as ended there.
+// A flag and no Result: what came before a read that failed is used all the same, and told with it.
 #[derive(Drop)]
 pub struct Source<R> {
     pub reader: R,
@@ -65,6 +66,7 @@ fn wants_more(found: Result<Record, Stop>) -> bool
 
 // Reads on until the record at the front of the unused bytes is there whole, or is bad, or the input ends: no further than that record needs.
 // What it takes from the reader stands behind the bytes that were unused before, and nothing else is taken.
+// Two places and no struct of them: a turn of the session moves the first alone, and each slice here takes them apart again.
 pub fn bring<R: Read>(source: &mut Source<R>, input: &mut [u8], from: usize, to: usize) -> Brought
     requires { (longest_record ≤ length input.old) × (from ≤ to) × (to ≤ length input.old) }
     ensures brings { Brings input.old from to input.new result }

@@ -14,7 +14,7 @@ use sitting::Held;
 use words::{LARGEST_HELD, LINE, ROOM};
 
 // A record that is done and told: what is held now, and the length of its line.
-// A length and no slice: the line stays in the lent buffer, fixed memory, and a slice of it would keep that borrowed in what is handed on.
+// A length, as std's `read` gives one, and no slice: `Turns` says every byte of the lent buffer, those behind the line too.
 #[derive(Clone, Copy)]
 pub struct Turned {
     pub held: Held,
@@ -49,6 +49,7 @@ fn is_bad(found: Result<Record, Stop>) -> bool
 }
 
 // What is printed where the session stops, by the reading that stops it.
+// It takes the whole Result and no `Stop` alone: `printed_leave_only` speaks of any reading, a whole record too, for which it prints nothing.
 pub fn leave(found: Result<Record, Stop>, out: &mut [u8; LINE]) -> usize
     ensures { Puts (parting found) result out.old out.new }
 {

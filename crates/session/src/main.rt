@@ -32,6 +32,8 @@ fn hand<W: Write, E: Write>(output: &mut W, errors: &mut E, out: &[u8]) -> bool
 
 // Record after record; the reading that is not a whole one stops it. True where it ran its course and all of it was taken: not where the output
 // was not taken, nor at the most records. Where no read failed besides, what was written is what the program prints of all that the reader had.
+// Four buffers and no struct of them, which would be made in `main` to be taken apart here: `bring` is lent one, `turn` all four, by parts.
+#[tactic(auto, using(lines::proofs::LineLaws::puts_fit))]
 fn session<R: Read, W: Write, E: Write>(
     source: &mut Source<R>,
     output: &mut W,

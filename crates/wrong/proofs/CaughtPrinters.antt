@@ -15,10 +15,10 @@ use Rattle.sitting.specs.Sittings.{holding, taken_for, outcome_of}
 use Rattle.printed.specs.Printed.{comes_of, line_of, parting, next, printing, printed}
 use Rattle.printed.specs.Rows.{terms}
 use Rattle.printed.proofs.Printing.{enough}
-use Rattle.wrong.specs.WrongPrinters.{Printing, going, by, printer, right_parts, printer_uncaught, wrong_printers, print_faults, more_print_faults, inserts_nothing}
+use Rattle.wrong.specs.WrongPrinters.{Printing, going, by, printer, right_parts, printer_uncaught, wrong_printers, print_faults, more_print_faults}
 
 pub printers_caught : printer_uncaught 1 wrong_printers ≡ 0
-unfolding rules mark_of body_at record_at holding taken_for outcome_of digit_of hex line parting printing printed terms print_faults more_print_faults wrong_printers inserts_nothing
+unfolding rules mark_of body_at record_at holding taken_for outcome_of digit_of hex line parting printing printed terms print_faults more_print_faults wrong_printers
 printers_caught = refl
 
 -- ---- the right one

@@ -114,7 +114,7 @@ unfoldable pub high_first : List ℕ → Found
 high_first left = first_record (set (set left 2 (byte left 3)) 3 (byte left 2))
 
 -- an insert with an empty body is bad
-unfoldable pub inserts_nothing : Mark → ℕ → ℕ → Bool
+abbrev pub inserts_nothing : Mark → ℕ → ℕ → Bool
 inserts_nothing Insert start end = start is end
 inserts_nothing Remove start end = false
 inserts_nothing Message start end = false

@@ -1,27 +1,9 @@
-use Rattle.std.proofs.Common.{◌≡◌, ◌-◌, refl, sym, ap, ◌∙◌, subst, true, List, [], ℕ, take, drop, arith, append-nil, rules}
+use Rattle.std.proofs.Common.{◌≡◌, ◌-◌, sym, ap, ◌∙◌, subst, true, List, [], ℕ, take, drop, arith, append-nil, rules}
 use Rattle.std.specs.Io.KnownBytes.{Consumes}
 use Rattle.records.specs.Records.{record_at}
 use Rattle.input.specs.Input.{part, wants, Grows}
-use Rattle.input.proofs.InputLaws.{grows_none, grows_more, taken_none, taken_more, same_part, more_is, more_part, unsettled, wants_room}
+use Rattle.input.proofs.InputLaws.{grows_more, taken_more, same_part, more_is, more_part, unsettled, wants_room}
 use Rattle.input.proofs.bring.Goals as goal
-
-pub loop-found-init : goal.loop-found-init
-loop-found-init g c = record {
-  ordered = search rules;
-  within = search rules;
-  same_length = search rules;
-  unused = grows_none _;
-  taken = taken_none _ c.args.from c.args.to c.args.input.now (omega arith);
-  no_further = λ h. (refl, refl);
-}
-
-pub returns-then-not-wants_more-clause-brings : goal.returns-then-not-wants_more-clause-brings
-returns-then-not-wants_more-clause-brings g c =
-    let i = c.loop-found.invariant in
-    record { reading = c.read-found.ensures; unused = i.unused; ordered = i.ordered; within = i.within }
-
-pub returns-then-not-wants_more-clause-no_further : goal.returns-then-not-wants_more-clause-no_further
-returns-then-not-wants_more-clause-no_further g c = λ h. (c.loop-found.invariant.no_further h).1
 
 pub read_more-got-requires : goal.read_more-got-requires
 read_more-got-requires g c =
@@ -51,11 +33,6 @@ returns-then-got-eq0-clause-taken g c =
     let none = subst (λ (k : ℕ). Consumes (g.R.Read.remaining l.source.reader) (g.R.Read.remaining r.new.source.reader) (take k (drop (l.end - l.at) r.new.input)))
     c.if-got-eq0.true r.ensures.taken in
     taken_more _ _ _ a.from a.to a.input.now [] (omega arith) l.invariant.unused (sym p ∙ sym (append-nil _)) l.invariant.taken none
-
-pub returns-then-got-eq0-clause-no_further : goal.returns-then-got-eq0-clause-no_further
-returns-then-got-eq0-clause-no_further g c =
-    let m : wants c.read-found.result ≡ true = sym c.wants_more.ensures ∙ c.if-not-wants_more.false in
-    λ h. absurd (unsettled _ _ c.read-found.ensures m (c.loop-found.invariant.no_further h).0 h)
 
 pub loop-found-preserved : goal.loop-found-preserved
 loop-found-preserved g c =

@@ -1,5 +1,4 @@
 use Rattle.std.proofs.Common.{◌≡◌, true, arith, rules, ◌∙◌}
-use Rattle.lines.proofs.LineLaws.{puts_fit}
 use Rattle.input.proofs.InputLaws.{brought_whole}
 use Rattle.session.proofs.Told.{between_start, between_turn, not_whole, passed_end, all_printed}
 use Rattle.session.proofs.session.Goals as goal
@@ -11,9 +10,6 @@ loop-init g c = record {
   same_length = search rules;
   between = between_start _ _ _ _ _;
 }
-
-pub shared_ref_as_front-hand : goal.shared_ref_as_front-hand
-shared_ref_as_front-hand g c = omega (arith, puts_fit c.leave-n.ensures)
 
 pub returns-in_default : goal.returns-in_default
 returns-in_default g c =
@@ -45,9 +41,6 @@ slice_bounds-turn-start g c = omega (arith, brought_whole c.bring-brought.ensure
 
 pub slice_bounds-turn-end : goal.slice_bounds-turn-end
 slice_bounds-turn-end g c = omega (arith, brought_whole c.bring-brought.ensures.brings c.in-Ok.is)
-
-pub shared_ref_as_front-hand-in-loop : goal.shared_ref_as_front-hand-in-loop
-shared_ref_as_front-hand-in-loop g c = omega (arith, puts_fit c.turn-turned.ensures.line)
 
 pub loop-preserved : goal.loop-preserved
 loop-preserved g c =
