@@ -7,7 +7,6 @@ use lib.ListN.{length}
 use Rattle.words.specs.Bytes.{over}
 use Rattle.chips.specs.declared.Facts.{Facts}
 use Rattle.chips.specs.Kinds.{facts}
-use Rattle.chips.proofs.KindLaws.{laid}
 use Rattle.bits.specs.Bits.{packed_bytes}
 use Rattle.bits.proofs.PackLaws.{length_packed_bytes}
 use Rattle.std.specs.Prelude.{Ok}
@@ -15,12 +14,6 @@ use Rattle.steps.specs.declared.Order.{Order}
 use Rattle.orders.specs.Orders.{said_by, image_by, slot_by}
 use Rattle.orders.proofs.Tells.{does_tell}
 use Rattle.orders.proofs.read_bits.Goals as goal
-
-pub read_bits-requires : goal.read_bits-requires
-read_bits-requires c =
-    let bits = ap (λ (f : Facts). f.bits) c.facts.ensures in
-    let covered = ap (λ (f : Facts). f.covered) c.facts-2.ensures in
-    (omega (arith, covered), omega (arith, (laid c.args.chip).guards, bits, covered), omega arith)
 
 pub returns : goal.returns
 unfolding said_by image_by slot_by
