@@ -9,22 +9,13 @@ use Rattle.words.proofs.Choices.{taken, passed}
 use Rattle.words.proofs.Lists.{over_pair, same_four}
 use Rattle.chips.specs.declared.Facts.{Facts}
 use Rattle.chips.specs.Kinds.{facts}
-use Rattle.chips.proofs.KindLaws.{laid, coded}
 use Rattle.slot.specs.Slots.{opened, closed, tries_as}
 use Rattle.counts.specs.Counts.{tries_in}
 use Rattle.codes.specs.Counters.{tries}
 use Rattle.codes.specs.Codes.{presenting, accepts}
-use Rattle.codes.proofs.CodeLaws.{length_presenting}
 use Rattle.orders.specs.Orders.{after_code, right_code, said_by, image_by, slot_by, performed}
 use Rattle.changes.proofs.present.Goals as goal
 use Rattle.changes.proofs.present.Goals.{After-present-opens, After-put_two-len, After-with_tries-counted}
-
-pub present-opens-requires : goal.present-opens-requires
-present-opens-requires c =
-    let chip = c.args.chip in
-    let counter = ap (λ (f : Facts). f.counter) c.facts-counter.ensures in
-    let code = ap (λ (f : Facts). f.code) c.facts-2.ensures in
-    (omega (arith, (coded chip c.requires.2).inside, counter), omega (arith, (laid chip).codes, code))
 
 -- ---- what the presentation left
 numbers : {A : Type 0} (p : After-present-opens) (g : ℕ → ℕ → ℕ → ℕ → A) → let a = p.args in
@@ -55,15 +46,6 @@ counter_after : (p : After-present-opens) → let a = p.args in
     ≡ byte (after_code (facts a.chip) a.image.now a.guess.now) (facts a.chip).counter
 counter_after p =
     ap₂ byte (code_after p) (ap (λ (f : Facts). f.counter) p.facts-counter.ensures)
-
-pub bounds-image-counter : goal.bounds-image-counter
-bounds-image-counter c =
-    let a = c.args in
-    let f = facts a.chip in
-    let counter = ap (λ (f : Facts). f.counter) c.facts-counter.ensures in
-    let e : length c.present-opens.new.image ≡ length a.image.now =
-    ap length (code_after (goal.at.bounds-image-counter c).After-present-opens) ∙ length_presenting f.counter f.full f.code f.digits a.image.now a.guess.now in
-    omega (arith, e, (coded a.chip c.requires.2).inside, counter)
 
 -- 90 and the counter are said
 said : (q : After-put_two-len) → let a = q.args in

@@ -15,16 +15,6 @@ use Rattle.orders.specs.Orders.{said_by, image_by, slot_by, performed}
 use Rattle.changes.proofs.protect.Goals as goal
 use Rattle.changes.proofs.protect.Goals.{After-protect-more}
 
-pub protect-more-requires : goal.protect-more-requires
-protect-more-requires c =
-    let l = laid c.args.chip in
-    let p = c.protection.ensures in (
-      omega (arith, l.reached, l.kept, l.front),
-      omega (arith, l.reached, p.1),
-      omega (arith, l.words, p.1),
-      omega (arith, l.guards, p),
-    )
-
 -- ---- what the protection left
 numbers : {A : Type 0} (p : After-protect-more) (g : ℕ → ℕ → A) → let f = facts p.args.chip in
     g p.protection.result.bits p.protection.result.covered ≡ g f.bits f.covered
@@ -58,9 +48,6 @@ within p =
     let f = facts a.chip in
     let next : List ℕ = protect_equal f.bits f.covered a.image.now a.at a.«data».now in
     omega (arith, counted p, count_within f.bits f.covered next, (laid a.chip).few)
-
-pub overflow_cast-more : goal.overflow_cast-more
-overflow_cast-more c = omega (arith, within (goal.at.overflow_cast-more c).After-protect-more)
 
 pub overflow_add-slot : goal.overflow_add-slot
 overflow_add-slot c = omega (arith, within (goal.at.overflow_add-slot c).After-protect-more)

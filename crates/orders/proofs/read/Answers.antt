@@ -7,7 +7,6 @@ use lib.ListN.{length}
 use Rattle.words.specs.Bytes.{over}
 use Rattle.chips.specs.declared.Facts.{Facts}
 use Rattle.chips.specs.Kinds.{facts}
-use Rattle.chips.proofs.KindLaws.{laid}
 use Rattle.reads.specs.Reads.{bytes_read}
 use Rattle.reads.proofs.ReadLaws.{length_bytes_read}
 use Rattle.std.specs.Prelude.{Ok}
@@ -15,13 +14,6 @@ use Rattle.steps.specs.declared.Order.{Order}
 use Rattle.orders.specs.Orders.{said_by, image_by, slot_by}
 use Rattle.orders.proofs.Tells.{does_tell}
 use Rattle.orders.proofs.read.Goals as goal
-
-pub read_shown-requires : goal.read_shown-requires
-read_shown-requires c =
-    let l = laid c.args.chip in
-    let code = ap (λ (f : Facts). f.code) c.facts.ensures in
-    let digits = ap (λ (f : Facts). f.digits) c.facts-2.ensures in
-    (omega arith, omega arith, omega (arith, code, digits, l.codes, l.modest))
 
 pub returns : goal.returns
 unfolding said_by image_by slot_by

@@ -6,7 +6,6 @@ use Prim.Native.Nat.{ℕ}
 use lib.ListN.{length}
 use Rattle.words.specs.Bytes.{over}
 use Rattle.chips.specs.Kinds.{facts}
-use Rattle.chips.proofs.KindLaws.{laid}
 use Rattle.bits.specs.Bits.{packed_bytes}
 use Rattle.bits.proofs.PackLaws.{length_packed_bytes}
 use Rattle.std.specs.Prelude.{Ok}
@@ -14,11 +13,6 @@ use Rattle.steps.specs.declared.Order.{Order}
 use Rattle.orders.specs.Orders.{said_by, image_by, slot_by}
 use Rattle.orders.proofs.Tells.{does_tell}
 use Rattle.orders.proofs.read_bits.Goals as goal
-
-pub read_bits-requires : goal.read_bits-requires
-read_bits-requires c =
-    let p = c.protection.ensures in
-    (omega (arith, p.1), omega (arith, (laid c.args.chip).guards, p), omega arith)
 
 pub returns : goal.returns
 unfolding said_by image_by slot_by

@@ -15,9 +15,6 @@ use Rattle.orders.specs.Orders.{said_by, image_by, slot_by}
 use Rattle.orders.proofs.Tells.{does_tell}
 use Rattle.orders.proofs.read_counter.Goals as goal
 
-pub read_counter-requires : goal.read_counter-requires
-read_counter-requires c = (omega (arith, ap (λ (f : Facts). f.counter) c.facts.ensures), omega arith, omega arith, omega arith)
-
 pub returns : goal.returns
 unfolding said_by image_by slot_by
 returns c b =
