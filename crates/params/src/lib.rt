@@ -12,7 +12,8 @@ use faults::{Request, fault_of};
 use frame::{Reply, seal, seal_done};
 use slot::Slot;
 
-// The answer 82h of a request: failed, no data and the slot as it was; else the next slot, and its parameters told.
+// The answer 82h of a request: failed, no data and the slot as it was; else the next slot, and its parameters told. Inlined, as `quiet` of `power`.
+#[inline]
 fn tell(request: Request, slot: Slot, next: Slot, msg: &[u8], answer: &mut [u8]) -> Reply
     requires { (10 ≤ length msg.now) × (least_room ≤ length answer.old) }
     ensures { (image : List ℕ) → answer_type request ≡ 0x82 → deed request slot.holds slot image msg.now ≡ told next image
