@@ -1,4 +1,4 @@
-// What is wrong with a message, first fault first. Inner functions: those that look into a message ask that a header is there.
+// A message that has a header, what it asks for, and what is wrong with it, first fault first.
 // The rules are written in specs/Faults.antt: a table for each fault, a line for each type, and the chain `fault_of`.
 #![tactic(auto)]
 
@@ -124,7 +124,7 @@ impl<'a> Message<'a> {
     }
 
     // How many bytes stand behind the header,
-    pub fn data_len(&self) -> usize
+    fn data_len(&self) -> usize
         ensures { result ≡ length self.now - 10 }
     {
         self.bytes.len() - 10

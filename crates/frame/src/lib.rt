@@ -1,5 +1,5 @@
 // What frames an answer: its header, and why a call is turned down, by number.
-// Inner functions ask that a header is there; the methods have no `requires`.
+// Inner functions ask that the answer's header has its room; the methods have no `requires`.
 // The rules are written in specs/: Answers, and Exchange for what comes of a message, an insertion and a removal.
 #![tactic(auto)]
 
