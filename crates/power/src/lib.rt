@@ -1,5 +1,5 @@
 // Power on, power off and slot status: 62h, 63h, 65h. Inner functions: they ask that the tests before them have passed.
-// The rules are those of `frame`.
+// The rules are those of `frame`. The answer buffer's room stays a clause: a struct that holds a `&mut` tells its lender nothing of what is left there (tried).
 #![tactic(auto)]
 
 ghost use Rattle.std.specs.Prelude.{◌≡◌, true, List, ℕ, ◌≤◌, length};
