@@ -10,13 +10,13 @@ ghost use Rattle.faults.specs.declared.Request.TheVariants.{Transfer, Unsupporte
 ghost use Rattle.faults.specs.Faults.{type_byte, request_of};
 ghost use Rattle.frame.specs.Exchange.{reply, Gives};
 
-use faults::{Fault, Request, fault_of};
+use faults::{Fault, Message, Request, fault_of};
 use frame::{Reply, seal, seal_done};
 use slot::Slot;
 
 // 6Fh: the pseudo-APDU goes to the card that is in.
-fn transfer(slot: Slot, image: &mut [u8], msg: &[u8], answer: &mut [u8]) -> Reply
-    requires { (10 ≤ length msg.now) × (least_room ≤ length answer.old) × (image_is_card slot.holds image.old ≡ true) × (0 < slot.page)
+fn transfer(slot: Slot, image: &mut [u8], msg: &Message, answer: &mut [u8]) -> Reply
+    requires { (least_room ≤ length answer.old) × (image_is_card slot.holds image.old ≡ true) × (0 < slot.page)
         × (slot.protected ≡ protected_of slot.holds image.old) }
     ensures { Gives (reply Transfer slot image.old msg.now) result image.new answer.old answer.new }
 {
@@ -27,26 +27,26 @@ fn transfer(slot: Slot, image: &mut [u8], msg: &[u8], answer: &mut [u8]) -> Repl
     let Some(chip) = slot.holds else {
         return seal(0x80, fault, 0, slot, msg, answer);
     };
-    let told = command::command(chip, slot, image, &msg[10..], &mut answer[10..]);
+    let told = command::command(chip, slot, image, msg.data(), &mut answer[10..]);
     seal_done(0x80, told.len, told.slot, msg, answer)
 }
 
 // A type that is not supported.
-fn unsupported(slot: Slot, msg: &[u8], answer: &mut [u8]) -> Reply
-    requires { (10 ≤ length msg.now) × (least_room ≤ length answer.old) }
+fn unsupported(slot: Slot, msg: &Message, answer: &mut [u8]) -> Reply
+    requires { least_room ≤ length answer.old }
     ensures { (image : List ℕ) → Gives (reply Unsupported slot image msg.now) result image answer.old answer.new }
 {
     seal(0x81, Some(Fault::Unknown), 0, slot, msg, answer)
 }
 
 // The handler of the type byte.
-pub fn handle(slot: Slot, image: &mut [u8], msg: &[u8], answer: &mut [u8]) -> Reply
-    requires { (10 ≤ length msg.now) × (least_room ≤ length answer.old) × (image_is_card slot.holds image.old ≡ true) × (0 < slot.page)
+pub fn handle(slot: Slot, image: &mut [u8], msg: &Message, answer: &mut [u8]) -> Reply
+    requires { (least_room ≤ length answer.old) × (image_is_card slot.holds image.old ≡ true) × (0 < slot.page)
         × (slot.protected ≡ protected_of slot.holds image.old) }
     ensures { Gives (reply (request_of (type_byte msg.now)) slot image.old msg.now) result image.new
         answer.old answer.new }
 {
-    match Request::from(msg[0]) {
+    match msg.request() {
         Request::SetParameters => params::set_parameters(slot, msg, answer),
         Request::PowerOn => power::power_on(slot, image, msg, answer),
         Request::PowerOff => power::power_off(slot, msg, answer),

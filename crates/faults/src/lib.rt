@@ -1,11 +1,14 @@
-// What is wrong with a message, first fault first. Inner functions: those that look into a message ask that a header is there.
+// A message that has a header, what it asks for, and what is wrong with it, first fault first.
 // The rules are written in specs/Faults.antt: a table for each fault, a line for each type, and the chain `fault_of`.
 #![tactic(auto)]
 
-ghost use Rattle.std.specs.Prelude.{◌≡◌, ◌≤◌, length};
-ghost use Rattle.faults.specs.Faults.{request_of, supported, data_fits, bad_field, ready, fault_of};
+ghost use Rattle.std.specs.Prelude.{◌≡◌, ◌≤◌, ◌-◌, List, ℕ, length};
+ghost use Rattle.words.specs.Bytes.{byte};
+ghost use Rattle.sets.specs.Sets.{set_of};
+ghost use Rattle.faults.specs.Faults.{type_byte, dw_length, b_slot, b_seq, b_power_select, apdu, request_of, supported, data_fits, bad_field, ready, fault_of};
 
 use slot::Slot;
+use std::marker::Model;
 use words::four_at;
 
 // What a message asks for, by its type byte.
@@ -52,6 +55,96 @@ impl From<u8> for Request {
     }
 }
 
+// A message that has a header; its data stand behind.
+#[derive(Drop)]
+pub struct Message<'a> {
+    bytes: &'a [u8],
+}
+
+impl<'a> Model for Message<'a> {
+    ghost Value = { List ℕ };
+
+    ghost view = { λ m. m.bytes.now };
+
+    ghost invariant = { λ m. 10 ≤ length m.bytes.now };
+}
+
+impl<'a> Message<'a> {
+    pub fn of(bytes: &'a [u8]) -> Self
+        requires { 10 ≤ length bytes.now }
+        ensures { result ≡ bytes.now }
+    {
+        Message { bytes }
+    }
+
+    // What it asks for.
+    pub fn request(&self) -> Request
+        ensures { result ≡ request_of (type_byte self.now) }
+    {
+        Request::from(self.bytes[0])
+    }
+
+    fn dw_length(&self) -> usize
+        ensures { result ≡ dw_length self.now }
+    {
+        four_at(self.bytes, 1)
+    }
+
+    // bSlot.
+    pub fn slot(&self) -> u8
+        ensures { result ≡ b_slot self.now }
+    {
+        self.bytes[5]
+    }
+
+    // bSeq.
+    pub fn seq(&self) -> u8
+        ensures { result ≡ b_seq self.now }
+    {
+        self.bytes[6]
+    }
+
+    fn power_select(&self) -> u8
+        ensures { result ≡ b_power_select self.now }
+    {
+        self.bytes[7]
+    }
+
+    // wLevelParameter, in two bytes.
+    fn level_low(&self) -> u8
+        ensures { result ≡ byte self.now 8 }
+    {
+        self.bytes[8]
+    }
+
+    fn level_high(&self) -> u8
+        ensures { result ≡ byte self.now 9 }
+    {
+        self.bytes[9]
+    }
+
+    // How many bytes stand behind the header,
+    fn data_len(&self) -> usize
+        ensures { result ≡ length self.now - 10 }
+    {
+        self.bytes.len() - 10
+    }
+
+    // and those bytes.
+    pub fn data(&self) -> &[u8]
+        ensures { result.now ≡ apdu self.now }
+    {
+        &self.bytes[10..]
+    }
+
+    // The set that it names.
+    pub fn set(&self) -> usize
+        ensures { result ≡ set_of self.now }
+    {
+        sets::set_of(self.bytes)
+    }
+}
+
 // ---- tables by type: a new type is a new line in each
 impl Request {
     // 1: the supported types.
@@ -78,18 +171,17 @@ impl Request {
     }
 
     // 4: the offset of the first field of its own that a type has wrong: bPowerSelect above 3, wLevelParameter not 0, a byte of a parameter set.
-    fn bad_field(self, msg: &[u8]) -> Option<u8>
-        requires { 10 ≤ length msg.now }
+    fn bad_field(self, msg: &Message) -> Option<u8>
         ensures { result ≡ bad_field self msg.now }
     {
         match self {
-            Request::SetParameters => sets::fault_at(sets::set_of(msg), msg.len() - 10),
-            Request::PowerOn => (3 < msg[7]).then_some(7),
+            Request::SetParameters => sets::fault_at(msg.set(), msg.data_len()),
+            Request::PowerOn => (3 < msg.power_select()).then_some(7),
             Request::PowerOff => None,
             Request::SlotStatus => None,
             Request::GetParameters => None,
             Request::ResetParameters => None,
-            Request::Transfer => (msg[8] != 0 || msg[9] != 0).then_some(8),
+            Request::Transfer => (msg.level_low() != 0 || msg.level_high() != 0).then_some(8),
             Request::Unsupported => None,
         }
     }
@@ -114,21 +206,20 @@ impl Request {
 // ---- the chain
 
 // The first fault of a message of a type.
-pub fn fault_of(request: Request, slot: Slot, msg: &[u8]) -> Option<Fault>
-    requires { 10 ≤ length msg.now }
+pub fn fault_of(request: Request, slot: Slot, msg: &Message) -> Option<Fault>
     ensures { result ≡ fault_of request slot msg.now }
 {
     if !request.is_supported() {
         return Some(Fault::Unknown);
     }
-    let n = four_at(msg, 1);
-    if n != msg.len() - 10 {
+    let n = msg.dw_length();
+    if n != msg.data_len() {
         return Some(Fault::Length);
     }
     if !request.data_fits(n) {
         return Some(Fault::Length);
     }
-    if msg[5] != 0 {
+    if msg.slot() != 0 {
         return Some(Fault::OtherSlot);
     }
     if let Some(at) = request.bad_field(msg) {

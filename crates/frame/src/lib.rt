@@ -1,5 +1,5 @@
 // What frames an answer: its header, and why a call is turned down, by number.
-// Inner functions ask that a header is there; the methods have no `requires`.
+// Inner functions ask that the answer's header has its room; the methods have no `requires`.
 // The rules are written in specs/: Answers, and Exchange for what comes of a message, an insertion and a removal.
 #![tactic(auto)]
 
@@ -11,7 +11,7 @@ ghost use Rattle.faults.specs.Faults.{b_slot, is_clear};
 ghost use Rattle.frame.specs.Answers.{b_error, card_state, b_status, byte9, header};
 ghost use Rattle.frame.specs.Exchange.{number_of, number, answer_length, Sealed};
 
-use faults::Fault;
+use faults::{Fault, Message};
 use slot::Slot;
 
 // Why a call is turned down: the numbers 1 to 5 of the rules.
@@ -166,20 +166,20 @@ pub fn seal(
     fault: Option<Fault>,
     len: usize,
     slot: Slot,
-    msg: &[u8],
+    msg: &Message,
     answer: &mut [u8],
 ) -> Reply
-    requires { (10 ≤ length msg.now) × (10 ≤ length answer.old) × (len ≤ 257) }
+    requires { (10 ≤ length answer.old) × (len ≤ 257) }
     ensures { Sealed answer_type fault len slot msg.now result answer.old answer.new }
 {
-    let bslot = msg[5];
+    let bslot = msg.slot();
     let state = state_of(bslot, slot);
     put_header(
         answer,
         answer_type,
         len,
         bslot,
-        msg[6],
+        msg.seq(),
         status_of(fault, state),
         error_of(fault),
         last_of(answer_type, fault, state, slot),
@@ -191,8 +191,8 @@ pub fn seal(
 }
 
 // The answer of a message without a fault, sealed likewise: it names slot 0.
-pub fn seal_done(answer_type: u8, len: usize, slot: Slot, msg: &[u8], answer: &mut [u8]) -> Reply
-    requires fits { (10 ≤ length msg.now) × (10 ≤ length answer.old) × (len ≤ 257) }
+pub fn seal_done(answer_type: u8, len: usize, slot: Slot, msg: &Message, answer: &mut [u8]) -> Reply
+    requires fits { (10 ≤ length answer.old) × (len ≤ 257) }
     requires slot_0 { b_slot msg.now ≡ 0 }
     ensures { Sealed answer_type None len slot msg.now result answer.old answer.new }
 {
@@ -202,7 +202,7 @@ pub fn seal_done(answer_type: u8, len: usize, slot: Slot, msg: &[u8], answer: &m
         answer_type,
         len,
         0,
-        msg[6],
+        msg.seq(),
         state,
         0,
         last_of(answer_type, None, state, slot),

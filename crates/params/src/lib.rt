@@ -8,13 +8,14 @@ ghost use Rattle.faults.specs.declared.Request.TheVariants.{SetParameters, GetPa
 ghost use Rattle.frame.specs.Answers.{answer_type};
 ghost use Rattle.frame.specs.Exchange.{told, deed, reply, Gives};
 
-use faults::{Request, fault_of};
+use faults::{Message, Request, fault_of};
 use frame::{Reply, seal, seal_done};
 use slot::Slot;
 
-// The answer 82h of a request: failed, no data and the slot as it was; else the next slot, and its parameters told.
-fn tell(request: Request, slot: Slot, next: Slot, msg: &[u8], answer: &mut [u8]) -> Reply
-    requires { (10 ≤ length msg.now) × (least_room ≤ length answer.old) }
+// The answer 82h of a request: failed, no data and the slot as it was; else the next slot, and its parameters told. Inlined, as `quiet` of `power`.
+#[inline]
+fn tell(request: Request, slot: Slot, next: Slot, msg: &Message, answer: &mut [u8]) -> Reply
+    requires { least_room ≤ length answer.old }
     ensures { (image : List ℕ) → answer_type request ≡ 0x82 → deed request slot.holds slot image msg.now ≡ told next image
         → Gives (reply request slot image msg.now) result image answer.old answer.new }
 {
@@ -27,25 +28,25 @@ fn tell(request: Request, slot: Slot, next: Slot, msg: &[u8], answer: &mut [u8])
 }
 
 // 61h.
-pub fn set_parameters(slot: Slot, msg: &[u8], answer: &mut [u8]) -> Reply
-    requires { (10 ≤ length msg.now) × (least_room ≤ length answer.old) }
+pub fn set_parameters(slot: Slot, msg: &Message, answer: &mut [u8]) -> Reply
+    requires { least_room ≤ length answer.old }
     ensures { (image : List ℕ) → Gives (reply SetParameters slot image msg.now) result image answer.old answer.new }
 {
-    let next = slot.with_set(sets::set_of(msg));
+    let next = slot.with_set(msg.set());
     tell(Request::SetParameters, slot, next, msg, answer)
 }
 
 // 6Ch.
-pub fn get_parameters(slot: Slot, msg: &[u8], answer: &mut [u8]) -> Reply
-    requires { (10 ≤ length msg.now) × (least_room ≤ length answer.old) }
+pub fn get_parameters(slot: Slot, msg: &Message, answer: &mut [u8]) -> Reply
+    requires { least_room ≤ length answer.old }
     ensures { (image : List ℕ) → Gives (reply GetParameters slot image msg.now) result image answer.old answer.new }
 {
     tell(Request::GetParameters, slot, slot, msg, answer)
 }
 
 // 6Dh.
-pub fn reset_parameters(slot: Slot, msg: &[u8], answer: &mut [u8]) -> Reply
-    requires { (10 ≤ length msg.now) × (least_room ≤ length answer.old) }
+pub fn reset_parameters(slot: Slot, msg: &Message, answer: &mut [u8]) -> Reply
+    requires { least_room ≤ length answer.old }
     ensures { (image : List ℕ) → Gives (reply ResetParameters slot image msg.now) result image answer.old answer.new }
 {
     tell(

@@ -8,6 +8,7 @@ ghost use Rattle.slot.specs.Slots.{removed};
 ghost use Rattle.frame.specs.Exchange.{served, exchange, insertion, Gives};
 ghost use Rattle.reader.specs.Fronts.{front_of};
 
+use faults::Message;
 use frame::{Refusal, Reply};
 use slot::Slot;
 
@@ -45,7 +46,7 @@ pub fn serve(slot: Slot, image: &mut [u8], msg: &[u8], answer: &mut [u8]) -> Rep
     if !sound::stands(slot, image) {
         return turn_down(Refusal::Record, slot);
     }
-    dispatch::handle(slot, image, msg, answer)
+    dispatch::handle(slot, image, &Message::of(msg), answer)
 }
 
 // One host message: the four tests in order, then the handler.

@@ -38,12 +38,12 @@ pub command-told-requires : goal.command-told-requires
 command-told-requires c =
     let a = c.args in
     let e : image_is_card (Some c.in-Some.chip) a.image.now ≡ true =
-    subst (λ (h : Option Chip). image_is_card h a.image.now ≡ true) c.in-Some.is c.requires.2 in
+    subst (λ (h : Option Chip). image_is_card h a.image.now ≡ true) c.in-Some.is c.requires.1 in
     let long = (card_parts _ a.image.now e).long in (
-      rw (tail_is 10 a.answer.now) (omega (arith, length-drop 10 a.answer.now, c.requires.1)),
+      rw (tail_is 10 a.answer.now) (omega (arith, length-drop 10 a.answer.now, c.requires.0)),
       long,
-      c.requires.3,
-      c.requires.4 ∙ ap (λ (h : Option Chip). protected_of h a.image.now) c.in-Some.is ∙ protected_card c.in-Some.chip a.image.now long,
+      c.requires.2,
+      c.requires.3 ∙ ap (λ (h : Option Chip). protected_of h a.image.now) c.in-Some.is ∙ protected_card c.in-Some.chip a.image.now long,
     )
 
 pub seal_done-requires-clause-slot_0 : goal.seal_done-requires-clause-slot_0
@@ -59,10 +59,10 @@ returns c =
     let g : Does (commanded f a.slot im (apdu m)) c.command-told.result c.command-told.new.image
     (take (length a.answer.now - 10) (drop 10 a.answer.now)) c.command-told.new.out =
     subst (λ (b : List ℕ). Does (commanded f a.slot im b) c.command-told.result c.command-told.new.image
-    (take (length a.answer.now - 10) (drop 10 a.answer.now)) c.command-told.new.out) (tail_is 10 m)
+    (take (length a.answer.now - 10) (drop 10 a.answer.now)) c.command-told.new.out) c.data.ensures
     c.command-told.ensures.does in
     gives_done Transfer a.slot im m c.fault_of-fault.ensures a.answer.now (commanded f a.slot im (apdu m))
     (ap not (sym c.if-is_some.ensures))
     (ap (λ (h : Option Chip). deed Transfer h a.slot im m) c.in-Some.is)
-    g.len (omega (arith, c.requires.1)) (lent_tail 10 a.answer.now (commanded f a.slot im (apdu m)).said g.out) g.image
+    g.len (omega (arith, c.requires.0)) (lent_tail 10 a.answer.now (commanded f a.slot im (apdu m)).said g.out) g.image
     (sealed_slot g.slot (sealed_clear (ap not (sym c.if-is_some.ensures)) c.seal_done.ensures))

@@ -19,12 +19,13 @@ returns c =
     let state : c.state_of-state.result ≡ st = c.state_of-state.ensures.0 ∙ ap (λ (n : ℕ). card_state n a.slot) named in
     let last : c.last_of.result ≡ byte9 a.answer_type None st a.slot =
     c.last_of.ensures ∙ ap (λ (x : ℕ). byte9 a.answer_type None x a.slot) state in
-    let hd : ℕ → ℕ → ℕ → List ℕ = λ n x z. over (header a.answer_type a.len n (b_seq m) x 0 z) a.answer.now in
+    let hd : ℕ → ℕ → ℕ → ℕ → List ℕ = λ n q x z. over (header a.answer_type a.len n q x 0 z) a.answer.now in
     record {
       verdict = refl;
       slot = refl;
       buffer =
-          c.put_header.ensures ∙ ap (λ (n : ℕ). hd n c.state_of-state.result c.last_of.result) named
-          ∙ ap (λ (x : ℕ). hd (b_slot m) x c.last_of.result) state
-          ∙ ap (hd (b_slot m) st) last;
+          c.put_header.ensures ∙ ap (λ (n : ℕ). hd n c.seq.result c.state_of-state.result c.last_of.result) named
+          ∙ ap (λ (q : ℕ). hd (b_slot m) q c.state_of-state.result c.last_of.result) c.seq.ensures
+          ∙ ap (λ (x : ℕ). hd (b_slot m) (b_seq m) x c.last_of.result) state
+          ∙ ap (hd (b_slot m) (b_seq m) st) last;
     }

@@ -10,5 +10,5 @@ pub returns : goal.returns
 unfolding deed
 returns c image =
     let a = c.args in
-    let next = c.with_set-next.ensures ∙ ap (λ (t : ℕ). set_as t a.slot) c.set_of.ensures in
+    let next = c.with_set-next.ensures ∙ ap (λ (t : ℕ). set_as t a.slot) c.set.ensures in
     c.tell.ensures image refl (ap (λ (s : Slot). told s image) (sym next))

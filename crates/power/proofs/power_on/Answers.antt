@@ -36,8 +36,8 @@ returns-in_default c =
 pub answer_to_reset-len-requires : goal.answer_to_reset-len-requires
 answer_to_reset-len-requires c =
     let a = c.args in
-    let e : image_is_card (Some c.in-Some.chip) a.image.now ≡ true = subst (λ (h : Option Chip). image_is_card h a.image.now ≡ true) c.in-Some.is c.requires.2 in
-    ((card_parts _ a.image.now e).long, rw (tail_is 10 a.answer.now) (omega (arith, length-drop 10 a.answer.now, c.requires.1)))
+    let e : image_is_card (Some c.in-Some.chip) a.image.now ≡ true = subst (λ (h : Option Chip). image_is_card h a.image.now ≡ true) c.in-Some.is c.requires.1 in
+    ((card_parts _ a.image.now e).long, rw (tail_is 10 a.answer.now) (omega (arith, length-drop 10 a.answer.now, c.requires.0)))
 
 pub seal_done-requires-clause-slot_0 : goal.seal_done-requires-clause-slot_0
 seal_done-requires-clause-slot_0 c = names_0 _ _ _ c.fault_of-fault.ensures (ap not (sym c.if-is_some.ensures))
@@ -54,5 +54,5 @@ returns c =
     let told = c.answer_to_reset-len.ensures in
     let next = c.reset_set-next.ensures ∙ ap defaulted c.power.ensures in
     gives_done PowerOn a.slot im a.msg.now c.fault_of-fault.ensures a.answer.now d clear does told.0
-    (omega (arith, c.requires.1))
+    (omega (arith, c.requires.0))
     (lent_tail 10 a.answer.now (reset f im) told.1) refl (sealed_slot next (sealed_clear clear c.seal_done.ensures))

@@ -1,12 +1,15 @@
 -- `serve` meets its contract: tests 3 and 4, and then the handler.
 use mathlib.Core.Path.{◌≡◌, sym, ap, ◌∙◌}
 use mathlib.Core.Bool.{true, not}
+use mathlib.Core.List.{List}
+use Prim.Native.Nat.{ℕ}
 use native.Mathlib.Omega.{arith}
 use Rattle.words.proofs.Choices.{first, rest}
 use Rattle.sound.specs.Sound.{image_is_card, sound}
 use Rattle.sound.proofs.SoundLaws.{sound_parts}
 use Rattle.frame.specs.declared.Refusal.{Refusal}
-use Rattle.frame.specs.Exchange.{served}
+use Rattle.faults.specs.Faults.{type_byte, request_of}
+use Rattle.frame.specs.Exchange.{reply, served}
 use Rattle.frame.proofs.AnswerLaws.{gives_is, gives_down, served_on, page_some}
 use Rattle.reader.proofs.serve.Goals as goal
 use Rattle.reader.proofs.serve.Goals.{Else-not-fits, Else-not-stands}
@@ -39,10 +42,11 @@ pub handle-requires : goal.handle-requires
 handle-requires c =
     let a = c.args in
     let s = sound_parts a.slot a.image.now (stands (goal.at.handle-requires c).Else-not-stands) in
-    (omega arith, omega arith, fits (goal.at.handle-requires c).Else-not-fits, page_some a.slot.page s.sized, s.counts.protected)
+    (omega arith, fits (goal.at.handle-requires c).Else-not-fits, page_some a.slot.page s.sized, s.counts.protected)
 
 pub returns : goal.returns
 returns c =
     let on = goal.at.returns c in
     let a = c.args in
-    gives_is (served_on a.slot a.image.now a.msg.now (fits on.Else-not-fits) (stands on.Else-not-stands)) c.handle.ensures
+    let named = ap (λ (m : List ℕ). reply (request_of (type_byte m)) a.slot a.image.now m) (sym c.of.ensures) in
+    gives_is (served_on a.slot a.image.now a.msg.now (fits on.Else-not-fits) (stands on.Else-not-stands) ∙ named) c.handle.ensures
