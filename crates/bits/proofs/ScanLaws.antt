@@ -3,7 +3,7 @@
 use mathlib.Core.Path.{◌≡◌, refl, sym, ap, ap₂, ◌∙◌}
 use mathlib.Core.List.{List}
 use mathlib.Core.Bool.{Bool, true, false}
-use Prim.Native.Nat.{ℕ, ◌+◌, ◌-◌, ◌/◌, ◌%◌, ◌^◌, ◌≤◌, ◌<◌}
+use Prim.Native.Nat.{ℕ, zero, suc, ◌+◌, ◌-◌, ◌/◌, ◌%◌, ◌^◌, ◌≤◌, ◌<◌}
 use native.Mathlib.Nat.{div-div-eq-div-mul, div-le_self}
 use Rattle.std.specs.Int.{trailing_ones}
 use Rattle.std.proofs.Common.{w32}
@@ -19,6 +19,19 @@ use Rattle.words.proofs.Numbers.{all_below, each_below}
 use Rattle.bits.specs.Bits.{bit_of, is_protected}
 use Rattle.bits.specs.Inner.{OnesFrom, FreeFrom}
 use Rattle.bits.proofs.ProtectionLaws.{protected_covered, protected_beyond}
+
+-- ---- a byte turned round
+-- what is left of 511 has a one where the byte has a zero, and a one behind the byte's end
+bits_turned_lem : (j b : ℕ) → j < 8 → b < 256 → bit_of (511 - b) j + bit_of b j ≡ 1
+bits_turned_lem zero b h l = omega arith
+bits_turned_lem (suc zero) b h l = omega arith
+bits_turned_lem (suc (suc zero)) b h l = omega arith
+bits_turned_lem (suc (suc (suc zero))) b h l = omega arith
+bits_turned_lem (suc (suc (suc (suc zero)))) b h l = omega arith
+bits_turned_lem (suc (suc (suc (suc (suc zero))))) b h l = omega arith
+bits_turned_lem (suc (suc (suc (suc (suc (suc zero)))))) b h l = omega arith
+bits_turned_lem (suc (suc (suc (suc (suc (suc (suc zero))))))) b h l = omega arith
+bits_turned_lem (suc (suc (suc (suc (suc (suc (suc (suc j)))))))) b h l = absurd (omega arith)
 
 -- ---- the ones of a byte, from its lowest bit on
 bit_shifted : (n i j : ℕ) → bit_of (n / 2 ^ i) j ≡ bit_of n (i + j)

@@ -1,2 +1,3 @@
+pub mod TypeLaws
 pub mod FaultLaws
 pub mod ClearLaws

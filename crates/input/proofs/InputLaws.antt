@@ -9,8 +9,8 @@ use lib.Seq.{length-take-le, take-take, take-add, drop-drop, drop-append_seam}
 use Rattle.std.specs.Prelude.{Ok, Err}
 use Rattle.std.specs.declared.option.Option.{Option}
 use Rattle.std.specs.Io.KnownBytes.{Consumes}
-use Rattle.std.proofs.KnownBytes.{Consumes-trans}
-use Rattle.std.proofs.lemmas.List.{drop-append-le, length-append}
+use Rattle.std.proofs.KnownBytes.{Consumes-nil, Consumes-trans}
+use Rattle.std.proofs.lemmas.List.{drop_all, drop-append-le, length-append}
 use Rattle.words.specs.Bounds.{longest_record}
 use Rattle.words.specs.Bytes.{over}
 use Rattle.words.proofs.Lists.{front_laid, drop_take}
@@ -48,6 +48,10 @@ module _ (at end : ℕ) (l read : List ℕ) {slid : List ℕ} (w : end ≤ lengt
   more_part got = record { came = take got (drop (end - at) read); grown = more_is got }
 
 -- ---- what is taken from the reader
+-- nothing yet
+pub taken_none : (a : Option (List ℕ)) (at end : ℕ) (l : List ℕ) → end ≤ length l → Consumes a a (drop (end - at) (part l at end))
+taken_none a at end l w = rw (drop_all (end - at) (part l at end) (omega (arith, length_part at end l w))) (Consumes-nil a)
+
 -- more, behind the unused bytes, which are as many as those of the start and more
 pub taken_more : (a b c : Option (List ℕ)) (at end : ℕ) (l more : List ℕ) {u u' : List ℕ} → end ≤ length l → Grows (part l at end) u
     → u' ≡ u ++ more → Consumes a b (drop (end - at) u) → Consumes b c more → Consumes a c (drop (end - at) u')

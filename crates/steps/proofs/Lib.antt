@@ -1,3 +1,4 @@
 pub mod StepLaws
+pub mod StepByStep
 pub mod Decisions
 pub mod PresentAgain
