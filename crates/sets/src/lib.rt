@@ -1,6 +1,6 @@
 // Slot parameters: a set is a protocol number with its bytes, 0 with 5, 1 with 7, kept as one number. No function that is used elsewhere has a
 // `requires` but the one that writes into a lent buffer: any number has its answer. The rules are written in specs/Sets.antt.
-#![tactic(auto)]
+#![tactic(auto, using(words::proofs::Choices::choices), unfolding(crate::specs::Sets::fits_length, crate::specs::Sets::length_of, crate::specs::Sets::long_wait, crate::specs::Sets::fault_at, crate::specs::Sets::takes))]
 
 ghost use Rattle.std.specs.Prelude.{◌≡◌, ◌≤◌, ◌<◌, length, leb};
 ghost use Rattle.words.specs.Choice.{◌or◌, ◌is◌};
@@ -76,7 +76,7 @@ fn fits_length(protocol: u8, n: usize) -> bool
     match protocol {
         0 => n == 5,
         1 => n == 7,
-        2..=0xFF => false,
+        _ => false,
     }
 }
 
@@ -131,7 +131,6 @@ pub fn fault_at(set: usize, n: usize) -> Option<u8>
 }
 
 // Whether SetParameters would take a set that is stored.
-#[tactic(auto, unfolding(crate::specs::Sets::takes))]
 pub fn is_taken(set: usize) -> bool
     ensures { result ≡ takes set }
 {

@@ -1,7 +1,8 @@
 -- Laws of choices: what holds of a chain, two chains alike, and a return that meets one.
-use mathlib.Core.Path.{◌≡◌, refl, subst⁻¹}
+use mathlib.Core.Path.{◌≡◌, refl, sym, subst⁻¹}
 use mathlib.Core.Bool.{Bool, true, false, beq, true≢false, false≢true}
 use mathlib.Core.Logic.{◌⊎◌, inl, inr}
+pub use borrow.Author.Tests.{ne_eqb}
 use Rattle.words.specs.Choice.{◌⇒◌⁏◌, ◌and◌, ◌or◌, ◌means◌}
 
 -- What holds of both branches holds of a choice; each branch may use its test.
@@ -170,3 +171,18 @@ means_on {a} {b} {z} e h = subst⁻¹ (λ (t : Bool). z ≡ (t means b)) e h
 -- A test that holds and fails is none.
 pub no_test : {A : Type 0} {b : Bool} → b ≡ true → b ≡ false → A
 no_test e h = absurd (true≢false (cc))
+
+-- The laws by which a check finds that tests are the rule's: a choice by its test, two tests by the first of them.
+pub and_first : {a : Bool} (b : Bool) → a ≡ false → a and b ≡ false
+and_first b e = sym (and_fails b e)
+
+pub and_second : {a : Bool} (b : Bool) → a ≡ true → a and b ≡ b
+and_second b e = sym (and_holds e refl)
+
+pub or_first : {a : Bool} (b : Bool) → a ≡ true → a or b ≡ true
+or_first b e = sym (or_taken b e)
+
+pub or_second : {a : Bool} (b : Bool) → a ≡ false → a or b ≡ b
+or_second b e = sym (or_passed e refl)
+
+pub ruleset choices = (first, rest, and_first, and_second, or_first, or_second, ne_eqb)
