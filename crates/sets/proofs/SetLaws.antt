@@ -1,8 +1,8 @@
 -- Laws of parameter sets: the lengths that fit, a set's bytes, the default.
 use Prim.Native.Nat.{ℕ, ◌+◌, ◌-◌, ◌%◌, ◌≤◌, ◌<◌, suc}
 use mathlib.Core.Path.{◌≡◌, refl, sym, ap, ◌∙◌}
-use mathlib.Core.Bool.{true, false, not}
-use mathlib.Core.Logic.{◌≢◌, ◌⊎◌, inl, inr}
+use mathlib.Core.Bool.{true, not}
+use mathlib.Core.Logic.{◌⊎◌, inl, inr}
 use mathlib.Core.List.{List, ◌∷◌}
 use native.Mathlib.Nat.{mod-eq_of_lt}
 use native.Mathlib.Omega.{arith}
@@ -12,23 +12,10 @@ use Rattle.std.proofs.lemmas.Option.{none-some}
 use borrow.Author.Tests.{eq-eqb, ne_eqb, eqb-true, not-false}
 use Rattle.words.specs.Choice.{◌⇒◌⁏◌, ◌and◌, ◌or◌, ◌is◌}
 use Rattle.words.specs.Bytes.{AllBytes, byte, number_in, byte_of, series}
-use Rattle.words.proofs.Choices.{either, first, rest, and_true, and_fails, or_true, or_end, both}
+use Rattle.words.proofs.Choices.{either, first, rest, and_true, and_fails, or_true, both}
 use Rattle.words.proofs.Lists.{length_series, series_part, series_at, tail_is}
 use Rattle.words.proofs.Numbers.{byte_number}
 use Rattle.sets.specs.Sets.{set_with, default_set, protocol_of, ifsc, nad, length_of, bytes_of, fits_length, long_wait, fault_at, set_of, takes}
-
--- ---- the lengths that fit
-pub fits_none : (p n : ℕ) → p ≡ 0 → fits_length p n ≡ (n is 5)
-unfolding fits_length ◌and◌ ◌or◌
-fits_none p n e = ap (λ (q : ℕ). fits_length q n) e ∙ or_end (n is 5)
-
-pub fits_one : (p n : ℕ) → p ≡ 1 → fits_length p n ≡ (n is 7)
-unfolding fits_length ◌and◌ ◌or◌
-fits_one p n e = ap (λ (q : ℕ). fits_length q n) e
-
-pub fits_other : (p n : ℕ) → p ≢ 0 → p ≢ 1 → fits_length p n ≡ false
-unfolding fits_length ◌and◌ ◌or◌
-fits_other p n h k = simp (ne_eqb p 0 h, ne_eqb p 1 k)
 
 -- ---- a set's bytes
 pub length_short : (t : ℕ) → length_of t ≤ 7

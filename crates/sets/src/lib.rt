@@ -7,7 +7,7 @@ ghost use Rattle.words.specs.Choice.{◌or◌, ◌is◌};
 ghost use Rattle.words.specs.Bytes.{over};
 ghost use Rattle.sets.specs.Sets.{default_set, length_of, bytes_of, fits_length, upper_bits, long_wait, fault_at, set_of, takes};
 
-use words::{byte_at, byte_of, wide};
+use words::{byte_at, byte_of};
 
 // The default: T=0 with 11 00 00 0A 00.
 pub fn default_set() -> usize
@@ -23,12 +23,16 @@ pub fn set_of(msg: &[u8]) -> usize
     if msg.len() < 15 {
         return short_set(msg);
     }
-    let low = wide(msg[7]) + 256 * wide(msg[10]) + 65536 * wide(msg[11]) + 16777216 * wide(msg[12]);
-    let high = wide(msg[13])
-        + 256 * wide(msg[14])
-        + 65536 * wide(byte_at(msg, 15))
-        + 16777216 * wide(byte_at(msg, 16));
-    low + 4294967296 * high
+    usize::from_le_bytes([
+        msg[7],
+        msg[10],
+        msg[11],
+        msg[12],
+        msg[13],
+        msg[14],
+        byte_at(msg, 15),
+        byte_at(msg, 16),
+    ])
 }
 
 // The same of a message that is too short for a set: what is not there counts as 0, and its bytes from offset 14 on are not.
@@ -37,11 +41,16 @@ fn short_set(msg: &[u8]) -> usize
     requires { length msg.now < 15 }
     ensures { result ≡ set_of msg.now }
 {
-    let low = wide(byte_at(msg, 7))
-        + 256 * wide(byte_at(msg, 10))
-        + 65536 * wide(byte_at(msg, 11))
-        + 16777216 * wide(byte_at(msg, 12));
-    low + 4294967296 * wide(byte_at(msg, 13))
+    usize::from_le_bytes([
+        byte_at(msg, 7),
+        byte_at(msg, 10),
+        byte_at(msg, 11),
+        byte_at(msg, 12),
+        byte_at(msg, 13),
+        0,
+        0,
+        0,
+    ])
 }
 
 // How many bytes a set has: five where it is T=0 and nothing stands in the two behind.

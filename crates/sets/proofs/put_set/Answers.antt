@@ -1,9 +1,9 @@
-use mathlib.Core.Path.{◌≡◌, refl, sym, ap, ap₂, ◌∙◌}
+use mathlib.Core.Path.{◌≡◌, sym, ap, ap₂, ◌∙◌}
 use mathlib.Core.List.{List}
 use native.Mathlib.Nat.{add_comm}
 use native.Mathlib.Omega.{arith}
-use Prim.Native.Nat.{ℕ, ◌<◌}
-use lib.ListN.{length, set, length-set}
+use Prim.Native.Nat.{ℕ}
+use lib.ListN.{set}
 use Rattle.words.specs.Bytes.{over, byte_of, series}
 use Rattle.words.proofs.Lists.{over_none, length_series, series_more}
 use Rattle.sets.specs.Sets.{length_of}
