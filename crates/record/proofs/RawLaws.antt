@@ -1,6 +1,6 @@
 -- Laws of raw records: bytes that are blank, a record that was found, and what is written.
 use mathlib.Core.Path.{◌≡◌, refl, sym, ap, ◌∙◌}
-use Prim.Native.Nat.{ℕ, ◌+◌, ◌-◌, ◌≤◌}
+use Prim.Native.Nat.{ℕ, ◌+◌, ◌-◌, ◌%◌, ◌≤◌, ◌<◌}
 use mathlib.Core.Bool.{Bool, true, false, not, false≢true}
 use mathlib.Core.List.{List, [], ◌∷◌, ◌++◌, append-nil}
 use native.Mathlib.Omega.{arith}
@@ -9,6 +9,7 @@ use lib.Dec.{ltb}
 use lib.Seq.{sets, sets-eq}
 use borrow.Author.Tests.{eq-eqb, ne_eqb, eqb-true, not-false, ltb-false}
 use Rattle.std.specs.Prelude.{Option, Result, Ok, Err}
+use Rattle.std.specs.Int.{w16, from_bool, to_le_bytes}
 use Rattle.words.specs.Choice.{◌and◌, ◌is◌, ◌isnt◌}
 use Rattle.words.specs.Bytes.{byte, blank, four_at, eight_at, low_first}
 use Rattle.words.proofs.Choices.{either, and_fails, and_holds}
@@ -16,7 +17,7 @@ use Rattle.words.proofs.Lists.{sets_snoc, sum_zero, blank_four, zero_last}
 use Rattle.slot.specs.declared.Slot.{Slot}
 use Rattle.slot.specs.Slots.{removed}
 use Rattle.record.specs.declared.Flaw.{Flaw}
-use Rattle.record.specs.Raw.{kind_of, state_of, raw_of, slot_from, slot_with}
+use Rattle.record.specs.Raw.{kind_of, flag_of, state_of, raw_of, slot_from, slot_with}
 use Rattle.chips.specs.declared.Chip.{Chip}
 
 -- ---- blank bytes
@@ -91,6 +92,15 @@ found_with h r s =
     })))))
 
 -- ---- what is written
+-- the library's byte of a flag, and its two bytes of a number, are the rule's
+pub flag_byte : (b : Bool) → from_bool b ≡ flag_of b
+flag_byte true = refl
+flag_byte false = refl
+
+pub two_low : (n : ℕ) → n < 65536 → to_le_bytes w16 n ≡ low_first 1 n
+unfolding low_first
+two_low n h = ap (λ (x : ℕ). n % 256 ∷ x ∷ []) (omega arith)
+
 -- kind, bytes 1 to 16 and the rest, stored one behind the other, are the record
 pub record_written : (r : List ℕ) (s : Slot) (k : ℕ) → length r ≡ 32 → k ≡ kind_of s.holds → sets (sets (set r 0 k) 1 (state_of s)) 17 (replicate 15 0) ≡ raw_of s
 unfolding raw_of low_first

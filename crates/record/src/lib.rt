@@ -2,13 +2,13 @@
 // bytes of the parameters, tries left, number of protected bytes in two, low first, whether the page was chosen (0 or 1), the rest 00h.
 // Any bytes at all may come as a record. No offered function has a `requires`: each has its one result for every input.
 // The rules are written in specs/Raw.antt.
-#![tactic(auto)]
+#![tactic(auto, using(words::proofs::Choices::choices), unfolding(crate::specs::Raw::slot_with, crate::specs::Raw::slot_of, crate::specs::Raw::card_with))]
 
-ghost use Rattle.std.specs.Prelude.{◌≡◌, ◌≤◌, length, drop, replicate};
+ghost use Rattle.std.specs.Prelude.{◌≡◌, ◌≤◌, true, false, MatchOption, length, drop, replicate, ltb};
 ghost use Rattle.std.proofs.lemmas.List.Edits.{sets};
 ghost use Rattle.words.specs.Choice.{◌⇒◌⁏◌, ◌is◌};
 ghost use Rattle.words.specs.Bytes.{blank};
-ghost use Rattle.record.specs.Raw.{kind_of, flag_of, state_of, raw_of, slot_with, slot_of};
+ghost use Rattle.record.specs.Raw.{kind_of, state_of, raw_of, slot_with, slot_of};
 
 use chips::Chip;
 use slot::Slot;
@@ -29,17 +29,7 @@ pub enum Flaw {
 fn kind_of(holds: Option<Chip>) -> u8
     ensures { result ≡ kind_of holds }
 {
-    match holds {
-        None => 0,
-        Some(chip) => chip.facts().kind,
-    }
-}
-
-// A byte of 0 or 1.
-fn flag_of(flag: bool) -> u8
-    ensures { result ≡ flag_of flag }
-{
-    if flag { 1 } else { 0 }
+    holds.map_or(0, |chip| chip.facts().kind)
 }
 
 // Writes what of a slot a message may change: bytes 1 to 16.
@@ -47,15 +37,16 @@ pub fn write_state(slot: Slot, raw: &mut [u8])
     requires { 17 ≤ length raw.old }
     ensures { raw.new ≡ sets raw.old 1 (state_of slot) }
 {
-    raw[1] = flag_of(slot.active);
+    raw[1] = u8::from(slot.active);
     raw[2] = slot.selected;
     raw[3] = slot.page;
-    raw[4] = flag_of(slot.open);
+    raw[4] = u8::from(slot.open);
     put_eight(raw, 5, slot.set);
     raw[13] = slot.tries;
-    raw[14] = (slot.protected % 256) as u8;
-    raw[15] = (slot.protected / 256) as u8;
-    raw[16] = flag_of(slot.chosen);
+    let [low, high] = slot.protected.to_le_bytes();
+    raw[14] = low;
+    raw[15] = high;
+    raw[16] = u8::from(slot.chosen);
 }
 
 // Makes the rest, byte 17 on, 00h.
@@ -63,10 +54,8 @@ fn clear_rest(raw: &mut [u8])
     requires { length raw.old ≡ 32 }
     ensures { raw.new ≡ sets raw.old 17 (replicate 15 0) }
 {
-    let mut i = 17;
-    while i < raw.len() {
+    for i in 17..raw.len() {
         raw[i] = 0;
-        i += 1;
     }
 }
 
@@ -89,44 +78,44 @@ fn is_blank(raw: &[u8]) -> bool
     requires { length raw.now ≡ 32 }
     ensures { result ≡ blank (drop 17 raw.now) }
 {
-    if eight_at(raw, 17) != 0 {
-        return false;
+    eight_at(raw, 17) == 0 && eight_at(raw, 24) == 0
+}
+
+// The flag in a byte: 0 or 1; any other holds none.
+fn flag_in(byte: u8) -> Option<bool>
+    ensures { MatchOption result (ltb 1 byte ≡ true) (λ flag. (ltb 1 byte ≡ false) × (flag ≡ byte is 1)) }
+{
+    match byte {
+        0 => Some(false),
+        1 => Some(true),
+        _ => None,
     }
-    eight_at(raw, 24) == 0
 }
 
 // Reads the bytes behind the kind byte.
 fn read_with(holds: Option<Chip>, raw: &[u8]) -> Result<Slot, Flaw>
     ensures { result ≡ slot_with holds raw.now }
 {
+    let broken = Flaw::Broken(holds);
     if raw.len() != 32 {
-        return Err(Flaw::Broken(holds));
+        return Err(broken);
     }
-    let active = raw[1];
-    if 1 < active {
-        return Err(Flaw::Broken(holds));
-    }
-    let open = raw[4];
-    if 1 < open {
-        return Err(Flaw::Broken(holds));
-    }
-    let chosen = raw[16];
-    if 1 < chosen {
-        return Err(Flaw::Broken(holds));
-    }
+    let active = flag_in(raw[1]).ok_or(broken)?;
+    let open = flag_in(raw[4]).ok_or(broken)?;
+    let chosen = flag_in(raw[16]).ok_or(broken)?;
     if !is_blank(raw) {
-        return Err(Flaw::Broken(holds));
+        return Err(broken);
     }
     Ok(Slot::of(
         holds,
-        active == 1,
+        active,
         raw[2],
         raw[3],
-        open == 1,
+        open,
         eight_at(raw, 5),
         raw[13],
-        raw[14] as u16 + 256 * raw[15] as u16,
-        chosen == 1,
+        u16::from_le_bytes([raw[14], raw[15]]),
+        chosen,
     ))
 }
 
