@@ -1,7 +1,7 @@
 // What frames an answer: its header, and why a call is turned down, by number.
 // Inner functions ask that the answer's header has its room; the methods have no `requires`.
 // The rules are written in specs/: Answers, and Exchange for what comes of a message, an insertion and a removal.
-#![tactic(auto)]
+#![tactic(auto, using(words::proofs::Choices::choices), unfolding(crate::specs::Answers::card_state, crate::specs::Answers::b_status, crate::specs::Answers::byte9))]
 
 ghost use Rattle.std.specs.Prelude.{◌≡◌, ◌≤◌, ◌<◌, None, length};
 ghost use Rattle.words.specs.Choice.{◌⇒◌⁏◌};
@@ -17,11 +17,11 @@ use slot::Slot;
 // Why a call is turned down: the numbers 1 to 5 of the rules.
 #[derive(Clone, Copy)]
 pub enum Refusal {
-    Buffer,
-    Message,
-    Image,
-    Record,
-    Occupied,
+    Buffer = 1,
+    Message = 2,
+    Image = 3,
+    Record = 4,
+    Occupied = 5,
 }
 
 // What comes of a call: how long the answer is, or why there is none.
@@ -38,13 +38,7 @@ impl Refusal {
     pub fn number(self) -> u8
         ensures { (result ≡ number_of self) × (result ≤ 5) }
     {
-        match self {
-            Refusal::Buffer => 1,
-            Refusal::Message => 2,
-            Refusal::Image => 3,
-            Refusal::Record => 4,
-            Refusal::Occupied => 5,
-        }
+        self as u8
     }
 }
 
@@ -72,8 +66,7 @@ fn error_of(fault: Option<Fault>) -> u8
     ensures { result ≡ b_error fault }
 {
     match fault {
-        None => 0x00,
-        Some(Fault::Unknown) => 0x00,
+        None | Some(Fault::Unknown) => 0x00,
         Some(Fault::Length) => 0x01,
         Some(Fault::OtherSlot) => 0x05,
         Some(Fault::Field(at)) => at,
@@ -85,16 +78,13 @@ fn error_of(fault: Option<Fault>) -> u8
 fn state_of(bslot: u8, slot: Slot) -> u8
     ensures { (result ≡ card_state bslot slot) × (result < 3) }
 {
-    if bslot != 0 {
-        return 2;
+    if bslot != 0 || !slot.has_card() {
+        2
+    } else if slot.active {
+        0
+    } else {
+        1
     }
-    if !slot.has_card() {
-        return 2;
-    }
-    if slot.active {
-        return 0;
-    }
-    1
 }
 
 // bStatus: the card state, and 40h when failed.
@@ -122,16 +112,11 @@ fn protocol_of(fault: Option<Fault>, slot: Slot) -> u8
 fn last_of(answer_type: u8, fault: Option<Fault>, state: u8, slot: Slot) -> u8
     ensures { result ≡ byte9 answer_type fault state slot }
 {
-    if answer_type == 0x80 {
-        return 0;
+    match answer_type {
+        0x80 => 0,
+        0x82 => protocol_of(fault, slot),
+        _ => u8::from(state != 0),
     }
-    if answer_type == 0x82 {
-        return protocol_of(fault, slot);
-    }
-    if state == 0 {
-        return 0;
-    }
-    1
 }
 
 // Ten bytes over the front of the answer buffer.
@@ -149,10 +134,7 @@ fn put_header(
     ensures { answer.new ≡ over (header answer_type len bslot seq status error last) answer.old }
 {
     answer[0] = answer_type;
-    answer[1] = (len % 256) as u8;
-    answer[2] = (len / 256 % 256) as u8;
-    answer[3] = (len / 65536 % 256) as u8;
-    answer[4] = (len / 16777216 % 256) as u8;
+    answer[1..5].copy_from_slice(&len.to_le_bytes()[..4]);
     answer[5] = bslot;
     answer[6] = seq;
     answer[7] = status;

@@ -1,40 +1,20 @@
--- `put_header` meets its contract: ten stores are ten bytes laid over the front.
+-- `put_header` meets its contract: ten bytes, four of them the length's, are laid over the front.
+use mathlib.Core.Path.{refl, ap, ◌∙◌}
 use native.Mathlib.Omega.{arith}
-use lib.ListN.{length-set}
-use Rattle.words.specs.Bytes.{over, four_bytes}
-use Rattle.frame.specs.Answers.{header}
+use mathlib.Core.List.{List}
+use Prim.Native.Nat.{ℕ}
+use lib.ListN.{take, set, length-set}
 use lib.Seq.{sets-eq}
+use Rattle.words.specs.Bytes.{over, four_bytes}
+use Rattle.words.proofs.Lists.{mid_sets}
+use Rattle.frame.specs.Answers.{header}
 use Rattle.frame.proofs.put_header.Goals as goal
-
-pub bounds-answer-1 : goal.bounds-answer-1
-bounds-answer-1 c = simp length-set (omega arith)
-
-pub bounds-answer-2 : goal.bounds-answer-2
-bounds-answer-2 c = simp length-set (omega arith)
-
-pub bounds-answer-3 : goal.bounds-answer-3
-bounds-answer-3 c = simp length-set (omega arith)
-
-pub bounds-answer-4 : goal.bounds-answer-4
-bounds-answer-4 c = simp length-set (omega arith)
-
-pub bounds-answer-5 : goal.bounds-answer-5
-bounds-answer-5 c = simp length-set (omega arith)
-
-pub bounds-answer-6 : goal.bounds-answer-6
-bounds-answer-6 c = simp length-set (omega arith)
-
-pub bounds-answer-7 : goal.bounds-answer-7
-bounds-answer-7 c = simp length-set (omega arith)
-
-pub bounds-answer-8 : goal.bounds-answer-8
-bounds-answer-8 c = simp length-set (omega arith)
-
-pub bounds-answer-9 : goal.bounds-answer-9
-bounds-answer-9 c = simp length-set (omega arith)
 
 pub returns : goal.returns
 unfolding over header four_bytes
 returns c =
     let a = c.args in
-    sets-eq (header a.answer_type a.len a.bslot a.seq a.status a.error a.last) a.answer.now 0 (omega (arith, c.requires))
+    let len = c.copy_from_slice.ensures.after ∙ ap (take 4) c.to_le_bytes.ensures in
+    ap (λ (l : List ℕ). set (set (set (set (set l 5 a.bslot) 6 a.seq) 7 a.status) 8 a.error) 9 a.last)
+    (mid_sets 1 (set a.answer.now 0 a.answer_type) {vs = four_bytes a.len} len refl (simp length-set (omega (arith, c.requires))))
+    ∙ sets-eq (header a.answer_type a.len a.bslot a.seq a.status a.error a.last) a.answer.now 0 (omega (arith, c.requires))
