@@ -5,10 +5,9 @@
 
 ghost use Rattle.std.specs.Prelude.{◌≡◌, ◌≤◌, ◌<◌, None, length};
 ghost use Rattle.words.specs.Choice.{◌⇒◌⁏◌};
-ghost use Rattle.words.specs.Bytes.{over};
 ghost use Rattle.sets.specs.Sets.{protocol_of};
 ghost use Rattle.faults.specs.Faults.{b_slot, is_clear};
-ghost use Rattle.frame.specs.Answers.{b_error, card_state, b_status, byte9, header};
+ghost use Rattle.frame.specs.Answers.{b_error, card_state, b_status, byte9};
 ghost use Rattle.frame.specs.Exchange.{number_of, number, answer_length, Sealed};
 
 use faults::{Fault, Message};
@@ -119,30 +118,36 @@ fn last_of(answer_type: u8, fault: Option<Fault>, state: u8, slot: Slot) -> u8
     }
 }
 
-// Ten bytes over the front of the answer buffer.
-fn put_header(
-    answer: &mut [u8],
-    answer_type: u8,
-    len: usize,
+// Seals an answer to a message that names slot bslot: its header goes before the data that stand from byte 10 on, and the slot after the call is
+// handed back. `answer_type` is no enum of 80h, 81h and 82h: it is the byte that stands first, and only byte 9 looks at which it is.
+fn seal_for(
     bslot: u8,
-    seq: u8,
-    status: u8,
-    error: u8,
-    last: u8,
-)
-    requires { 10 ≤ length answer.old }
-    ensures { answer.new ≡ over (header answer_type len bslot seq status error last) answer.old }
+    answer_type: u8,
+    fault: Option<Fault>,
+    len: usize,
+    slot: Slot,
+    msg: &Message,
+    answer: &mut [u8],
+) -> Reply
+    requires fits { (10 ≤ length answer.old) × (len ≤ 257) }
+    requires named { bslot ≡ b_slot msg.now }
+    ensures { Sealed answer_type fault len slot msg.now result answer.old answer.new }
 {
+    let state = state_of(bslot, slot);
     answer[0] = answer_type;
     answer[1..5].copy_from_slice(&len.to_le_bytes()[..4]);
     answer[5] = bslot;
-    answer[6] = seq;
-    answer[7] = status;
-    answer[8] = error;
-    answer[9] = last;
+    answer[6] = msg.seq();
+    answer[7] = status_of(fault, state);
+    answer[8] = error_of(fault);
+    answer[9] = last_of(answer_type, fault, state, slot);
+    Reply {
+        verdict: Ok(10 + len),
+        slot,
+    }
 }
 
-// The answer is sealed: its header goes before the data that stand from byte 10 on, and the slot after the call is handed back.
+// The answer is sealed.
 pub fn seal(
     answer_type: u8,
     fault: Option<Fault>,
@@ -154,22 +159,7 @@ pub fn seal(
     requires { (10 ≤ length answer.old) × (len ≤ 257) }
     ensures { Sealed answer_type fault len slot msg.now result answer.old answer.new }
 {
-    let bslot = msg.slot();
-    let state = state_of(bslot, slot);
-    put_header(
-        answer,
-        answer_type,
-        len,
-        bslot,
-        msg.seq(),
-        status_of(fault, state),
-        error_of(fault),
-        last_of(answer_type, fault, state, slot),
-    );
-    Reply {
-        verdict: Ok(10 + len),
-        slot,
-    }
+    seal_for(msg.slot(), answer_type, fault, len, slot, msg, answer)
 }
 
 // The answer of a message without a fault, sealed likewise: it names slot 0.
@@ -178,19 +168,5 @@ pub fn seal_done(answer_type: u8, len: usize, slot: Slot, msg: &Message, answer:
     requires slot_0 { b_slot msg.now ≡ 0 }
     ensures { Sealed answer_type None len slot msg.now result answer.old answer.new }
 {
-    let state = state_of(0, slot);
-    put_header(
-        answer,
-        answer_type,
-        len,
-        0,
-        msg.seq(),
-        state,
-        0,
-        last_of(answer_type, None, state, slot),
-    );
-    Reply {
-        verdict: Ok(10 + len),
-        slot,
-    }
+    seal_for(0, answer_type, None, len, slot, msg, answer)
 }
