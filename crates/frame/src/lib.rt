@@ -162,7 +162,8 @@ pub fn seal(
     seal_for(msg.slot(), answer_type, fault, len, slot, msg, answer)
 }
 
-// The answer of a message without a fault, sealed likewise: it names slot 0.
+// The answer of a message without a fault, sealed likewise: it names slot 0. It is apart for the speed: as a call of `seal` it makes up to 170
+// instructions more of a message about parameters, and 488 bytes of stack of 200.
 pub fn seal_done(answer_type: u8, len: usize, slot: Slot, msg: &Message, answer: &mut [u8]) -> Reply
     requires fits { (10 ≤ length answer.old) × (len ≤ 257) }
     requires slot_0 { b_slot msg.now ≡ 0 }

@@ -54,6 +54,7 @@ fn clear_rest(raw: &mut [u8])
     requires { length raw.old ≡ 32 }
     ensures { raw.new ≡ sets raw.old 17 (replicate 15 0) }
 {
+    // No `fill`: it is a call of C's memset, and the library calls nothing.
     for i in 17..raw.len() {
         raw[i] = 0;
     }
