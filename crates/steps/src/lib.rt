@@ -76,7 +76,8 @@ impl From<u8> for Ins {
             0xD1 => Ins::Protect,
             0x20 => Ins::Present,
             0xD2 => Ins::Change,
-            _ => Ins::Other,
+            0x00 | 0x02..=0x1F | 0x21..=0xA3 | 0xA5..=0xAF | 0xB3..=0xCF | 0xD3..=0xFF =>
+                Ins::Other,
         }
     }
 }
