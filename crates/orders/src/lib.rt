@@ -16,6 +16,7 @@ use steps::Status;
 use words::put_two;
 
 // What a handler tells: how many bytes it said, and the next slot record.
+// A length and no slice: what is said stays in the lent tail of the answer buffer, fixed memory, which the header goes before.
 #[derive(Clone, Copy)]
 pub struct Told {
     pub len: usize,

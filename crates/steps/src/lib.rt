@@ -100,6 +100,7 @@ pub enum Order {
 }
 
 // What the steps look at: the card and its slot record, the data length and P3.
+// That P3 comes from a byte stays a clause: `read_order`, `counter_order` and `bits_order` answer for any.
 #[derive(Clone, Copy)]
 pub struct Asked {
     pub chip: Chip,
