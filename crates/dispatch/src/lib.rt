@@ -39,7 +39,7 @@ fn unsupported(slot: Slot, msg: &Message, answer: &mut [u8]) -> Reply
     seal(0x81, Some(Fault::Unknown), 0, slot, msg, answer)
 }
 
-// The handler of the type byte.
+// The handler of what the message asks for.
 pub fn handle(slot: Slot, image: &mut [u8], msg: &Message, answer: &mut [u8]) -> Reply
     requires { (least_room ≤ length answer.old) × (image_is_card slot.holds image.old ≡ true) × (0 < slot.page)
         × (slot.protected ≡ protected_of slot.holds image.old) }
