@@ -1,5 +1,6 @@
 // A message that passed the tests goes to the handler of its type: those of `power` and `params`, 6Fh's and that of the unsupported types.
-// Inner functions: they ask that the tests before them have passed. The rules are those of `frame`.
+// Inner functions: they ask that the tests before them have passed. The rules are those of `frame`. What a sound record has stays a clause: a
+// `Slot` is any record, however made, and `served` says what comes of each.
 #![tactic(auto)]
 
 ghost use Rattle.std.specs.Prelude.{◌≡◌, true, List, ℕ, ◌≤◌, ◌<◌, length};

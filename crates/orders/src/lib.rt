@@ -1,6 +1,6 @@
 // What an order says and does, and the orders that leave the card as it is: data and status word go into the lent tail of the answer
 // buffer. Inner functions: each asks that the tail is long enough and that the order fits the card.
-// The rules of every order are written in specs/Orders.antt.
+// The rules of every order are written in specs/Orders.antt. Image and tail stay as they are, each with its clause: a struct that holds a `&mut` says nothing to its lender (`power`).
 #![tactic(auto, using(words::proofs::Lists::over_pair), unfolding(crate::specs::Orders::performed, crate::specs::Orders::said_by, crate::specs::Orders::image_by, crate::specs::Orders::slot_by))]
 
 ghost use Rattle.std.specs.Prelude.{◌≡◌, List, ℕ, ◌+◌, ◌*◌, ◌≤◌, ◌<◌, length, set, Ok, Err};
