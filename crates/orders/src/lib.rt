@@ -39,8 +39,8 @@ pub fn refuse(status: Status, slot: Slot, out: &mut [u8]) -> Told
     requires { least_tail ≤ length out.old }
     ensures { (f : Facts) (image b : List ℕ) → Does (performed f slot image b (Err status)) result image out.old out.new }
 {
-    let [high, low] = status.word();
-    let len = put_two(out, 0, high, low);
+    let word = status.word();
+    let len = put_two(out, 0, word[0], word[1]);
     Told { len, slot }
 }
 

@@ -36,13 +36,13 @@ impl Status {
         ensures { result ≡ word_of self }
     {
         match self {
-            Status::Length => [0x67, 0x00],
-            Status::Class => [0x6E, 0x00],
-            Status::Instruction => [0x6D, 0x00],
-            Status::Unselected => [0x69, 0x85],
-            Status::Place => [0x6B, 0x00],
-            Status::Value => [0x6A, 0x80],
-            Status::Denied => [0x69, 0x82],
+            Status::Length => [0x67u8, 0x00],
+            Status::Class => [0x6Eu8, 0x00],
+            Status::Instruction => [0x6Du8, 0x00],
+            Status::Unselected => [0x69u8, 0x85],
+            Status::Place => [0x6Bu8, 0x00],
+            Status::Value => [0x6Au8, 0x80],
+            Status::Denied => [0x69u8, 0x82],
         }
     }
 }
