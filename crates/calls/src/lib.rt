@@ -24,6 +24,7 @@ fn keep(reply: Reply, raw: &mut [u8]) -> Verdict
 }
 
 // The same after a message, which changes bytes 1 to 16 alone: the kind is the slot's already, and the rest 00h.
+// Two functions and no closure that writes: each asks of the record what its writer needs, and a bound on what a closure asks is no plainer.
 fn keep_state(reply: Reply, raw: &mut [u8]) -> Verdict
     requires { (byte raw.old 0 ≡ kind_of reply.slot.holds) × (drop 17 raw.old ≡ replicate 15 0) }
     ensures { (result ≡ reply.verdict) × (raw.new ≡ keeping (number reply.verdict) reply.slot raw.old) }

@@ -1,5 +1,5 @@
 // The orders that change the card: D0, D1, 20, D2. Inner functions: each asks that the image is as long as the card's, that the lent tail of
-// the answer buffer is long enough, and that the order fits the card. The rules are those of `orders`.
+// the answer buffer is long enough, and that the order fits the card. The rules are those of `orders`; image and tail have their clauses as there.
 #![tactic(auto, using(words::proofs::Lists::over_pair, steps::proofs::StepLaws::choices), unfolding(orders::specs::Orders::performed, orders::specs::Orders::said_by, orders::specs::Orders::image_by, orders::specs::Orders::slot_by, orders::specs::Orders::written_word))]
 
 ghost use Rattle.std.specs.Prelude.{◌≡◌, true, ◌+◌, ◌≤◌, ◌<◌, length, Ok};

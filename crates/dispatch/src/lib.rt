@@ -1,5 +1,6 @@
 // A message that passed the tests goes to the handler of its type: those of `power` and `params`, 6Fh's and that of the unsupported types.
-// Inner functions: they ask that the tests before them have passed. The rules are those of `frame`.
+// Inner functions: they ask that the tests before them have passed. The rules are those of `frame`. What a sound record has stays a clause: a
+// `Slot` is any record, however made, and `served` says what comes of each.
 #![tactic(auto)]
 
 ghost use Rattle.std.specs.Prelude.{◌≡◌, true, List, ℕ, ◌≤◌, ◌<◌, length};
@@ -39,7 +40,7 @@ fn unsupported(slot: Slot, msg: &Message, answer: &mut [u8]) -> Reply
     seal(0x81, Some(Fault::Unknown), 0, slot, msg, answer)
 }
 
-// The handler of the type byte.
+// The handler of what the message asks for.
 pub fn handle(slot: Slot, image: &mut [u8], msg: &Message, answer: &mut [u8]) -> Reply
     requires { (least_room ≤ length answer.old) × (image_is_card slot.holds image.old ≡ true) × (0 < slot.page)
         × (slot.protected ≡ protected_of slot.holds image.old) }

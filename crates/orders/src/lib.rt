@@ -1,6 +1,6 @@
 // What an order says and does, and the orders that leave the card as it is: data and status word go into the lent tail of the answer
 // buffer. Inner functions: each asks that the tail is long enough and that the order fits the card.
-// The rules of every order are written in specs/Orders.antt.
+// The rules of every order are written in specs/Orders.antt. Image and tail stay as they are, each with its clause: a struct that holds a `&mut` says nothing to its lender (`power`).
 #![tactic(auto, using(words::proofs::Lists::over_pair), unfolding(crate::specs::Orders::performed, crate::specs::Orders::said_by, crate::specs::Orders::image_by, crate::specs::Orders::slot_by))]
 
 ghost use Rattle.std.specs.Prelude.{◌≡◌, List, ℕ, ◌+◌, ◌*◌, ◌≤◌, ◌<◌, length, set, Ok, Err};
@@ -16,6 +16,7 @@ use steps::Status;
 use words::put_two;
 
 // What a handler tells: how many bytes it said, and the next slot record.
+// A length and no slice: what is said stays in the lent tail of the answer buffer, fixed memory, which the header goes before.
 #[derive(Clone, Copy)]
 pub struct Told {
     pub len: usize,
@@ -38,8 +39,8 @@ pub fn refuse(status: Status, slot: Slot, out: &mut [u8]) -> Told
     requires { least_tail ≤ length out.old }
     ensures { (f : Facts) (image b : List ℕ) → Does (performed f slot image b (Err status)) result image out.old out.new }
 {
-    let [high, low] = status.word();
-    let len = put_two(out, 0, high, low);
+    let word = status.word();
+    let len = put_two(out, 0, word[0], word[1]);
     Told { len, slot }
 }
 

@@ -13,6 +13,7 @@ use slot::Slot;
 use words::{LARGEST_HELD, ROOM, least};
 
 // What is held from record to record: the slot record, and how many bytes of the lent image are the card's.
+// A size and no slice: the image stays in the lent buffer, fixed memory, which the next record writes.
 #[derive(Clone, Copy)]
 pub struct Held {
     pub slot: Slot,
@@ -20,6 +21,7 @@ pub struct Held {
 }
 
 // A record that is done: its number, the length of its answer, and what is held now.
+// A number and no Result: `sittings_go` (promise) makes one of any outcome, whose number need not be a refusal's.
 #[derive(Clone, Copy)]
 pub struct Done {
     pub number: u8,
@@ -36,16 +38,11 @@ pub fn start() -> Held
 }
 
 // The kind that a kind byte is taken for: kinds 10 and 11 are unknown here, as 0 is. No record holds the image of one.
+#[tactic(auto, using(steps::proofs::StepLaws::choices), unfolding(crate::specs::Sittings::taken_for))]
 fn taken_for(kind: u8) -> u8
     ensures { result ≡ taken_for kind }
 {
-    if kind == 10 {
-        return 0;
-    }
-    if kind == 11 {
-        return 0;
-    }
-    kind
+    if kind == 10 || kind == 11 { 0 } else { kind }
 }
 
 // A card of a kind is put in. Only where it is accepted are its bytes laid into the lent image.
@@ -54,13 +51,15 @@ fn put_in(kind: u8, card: &[u8], slot: Slot, size: usize, image: &mut [u8]) -> D
     ensures { (was : List ℕ) → Leaves (inserting slot kind card.now (take size image.old)) result image.old image.new was was }
 {
     let reply = reader::insert(slot, taken_for(kind), card);
-    let next = reply.slot;
     let number = frame::number(reply.verdict);
     if number != 0 {
         return Done {
             number,
             len: 0,
-            held: Held { slot: next, size },
+            held: Held {
+                slot: reply.slot,
+                size,
+            },
         };
     }
     copies::lay(card, image);
@@ -68,7 +67,7 @@ fn put_in(kind: u8, card: &[u8], slot: Slot, size: usize, image: &mut [u8]) -> D
         number,
         len: 0,
         held: Held {
-            slot: next,
+            slot: reply.slot,
             size: card.len(),
         },
     }

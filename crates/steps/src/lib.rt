@@ -36,13 +36,13 @@ impl Status {
         ensures { result ≡ word_of self }
     {
         match self {
-            Status::Length => [0x67, 0x00],
-            Status::Class => [0x6E, 0x00],
-            Status::Instruction => [0x6D, 0x00],
-            Status::Unselected => [0x69, 0x85],
-            Status::Place => [0x6B, 0x00],
-            Status::Value => [0x6A, 0x80],
-            Status::Denied => [0x69, 0x82],
+            Status::Length => [0x67u8, 0x00],
+            Status::Class => [0x6Eu8, 0x00],
+            Status::Instruction => [0x6Du8, 0x00],
+            Status::Unselected => [0x69u8, 0x85],
+            Status::Place => [0x6Bu8, 0x00],
+            Status::Value => [0x6Au8, 0x80],
+            Status::Denied => [0x69u8, 0x82],
         }
     }
 }
@@ -76,7 +76,8 @@ impl From<u8> for Ins {
             0xD1 => Ins::Protect,
             0x20 => Ins::Present,
             0xD2 => Ins::Change,
-            _ => Ins::Other,
+            0x00 | 0x02..=0x1F | 0x21..=0xA3 | 0xA5..=0xAF | 0xB3..=0xCF | 0xD3..=0xFF =>
+                Ins::Other,
         }
     }
 }
@@ -99,6 +100,7 @@ pub enum Order {
 }
 
 // What the steps look at: the card and its slot record, the data length and P3.
+// That P3 comes from a byte stays a clause: `read_order`, `counter_order` and `bits_order` answer for any.
 #[derive(Clone, Copy)]
 pub struct Asked {
     pub chip: Chip,

@@ -25,8 +25,8 @@ pub returns : goal.returns
 unfolding performed said_by image_by slot_by
 returns c =
     λ f image b.
-    let said : byte c.word.result 0 ∷ byte c.word.result 1 ∷ [] ≡ word_of c.args.status =
-    ap (λ (w : List ℕ). byte w 0 ∷ byte w 1 ∷ []) c.word.ensures ∙ two c.args.status in
+    let said : byte c.word-word.result 0 ∷ byte c.word-word.result 1 ∷ [] ≡ word_of c.args.status =
+    ap (λ (w : List ℕ). byte w 0 ∷ byte w 1 ∷ []) c.word-word.ensures ∙ two c.args.status in
     record {
       len = c.put_two-len.ensures.0 ∙ ap length said;
       slot = refl;
