@@ -1,6 +1,6 @@
 // The orders that change the card: D0, D1, 20, D2. Inner functions: each asks that the image is as long as the card's, that the lent tail of
 // the answer buffer is long enough, and that the order fits the card. The rules are those of `orders`; image and tail have their clauses as there.
-#![tactic(auto, using(words::proofs::Lists::over_pair, steps::proofs::StepLaws::choices), unfolding(orders::specs::Orders::performed, orders::specs::Orders::said_by, orders::specs::Orders::image_by, orders::specs::Orders::slot_by, orders::specs::Orders::written_word))]
+#![tactic(auto, using(words::proofs::Lists::over_pair, words::proofs::Choices::choices), unfolding(orders::specs::Orders::performed, orders::specs::Orders::said_by, orders::specs::Orders::image_by, orders::specs::Orders::slot_by, orders::specs::Orders::written_word))]
 
 ghost use Rattle.std.specs.Prelude.{◌≡◌, true, ◌+◌, ◌≤◌, ◌<◌, length, Ok};
 ghost use Rattle.words.specs.Bounds.{least_tail};
@@ -16,7 +16,7 @@ use words::{put_two, wide};
 
 // D0's bytes: an I2C card writes them by pages, any other stores those that are not protected. The report: on an I2C card always true, on any
 // other whether each byte of the range ended equal to the one sent.
-#[tactic(auto, using(steps::proofs::StepLaws::choices), unfolding(orders::specs::Orders::written))]
+#[tactic(auto, using(words::proofs::Choices::choices), unfolding(orders::specs::Orders::written))]
 fn write_bytes(chip: Chip, page: u8, image: &mut [u8], at: usize, data: &[u8]) -> bool
     requires { (length image.old ≡ (facts chip).size) × (at + length «data».now ≤ (facts chip).memory) × (0 < page) }
     ensures image { image.new ≡ written (facts chip) page image.old at «data».now }

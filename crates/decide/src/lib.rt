@@ -1,6 +1,6 @@
 // What INS means on the card selects: from a pseudo-APDU that passed the first step to an order. An inner function: it asks that five bytes are there. The rules are
 // those of `steps`.
-#![tactic(auto, using(steps::proofs::StepLaws::choices), unfolding(steps::specs::Steps::order))]
+#![tactic(auto, using(words::proofs::Choices::choices), unfolding(steps::specs::Steps::order))]
 
 ghost use Rattle.std.specs.Prelude.{◌≡◌, ◌≤◌, length};
 ghost use Rattle.chips.specs.Kinds.{facts};

@@ -1,6 +1,6 @@
 // The steps of the commands that a closed card refuses, or that open it: D0, D1, 20, D2. Inner functions: they ask that P3 comes from a
 // byte. The rules are those of `steps`.
-#![tactic(auto, using(steps::proofs::StepLaws::choices), unfolding(steps::specs::Steps::steps, steps::specs::Steps::reaching))]
+#![tactic(auto, using(words::proofs::Choices::choices), unfolding(steps::specs::Steps::steps, steps::specs::Steps::reaching))]
 
 ghost use Rattle.std.specs.Prelude.{◌≡◌, not, ℕ, ◌<◌};
 ghost use Rattle.words.specs.Choice.{◌and◌};

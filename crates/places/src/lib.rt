@@ -1,7 +1,7 @@
 // Step 7: where a command is to act, from INS, P1P2 and P3 to an address or the refusal. Every command gets its place here, in two steps: `meant`, what INS means
 // on a card and the top bit that it carries; then, of these, `place`, the only function that looks at P1P2: the range test of the 17 bits. Inner functions: they ask
 // that five bytes are there, that an address has 17 bits and that P3 comes from a byte. The rules are those of `steps`.
-#![tactic(auto, using(steps::proofs::StepLaws::choices), unfolding(steps::specs::Steps::range_test))]
+#![tactic(auto, using(words::proofs::Choices::choices), unfolding(steps::specs::Steps::range_test))]
 
 ghost use Rattle.std.specs.Prelude.{◌≡◌, ◌+◌, ◌≤◌, ◌<◌, length};
 ghost use Rattle.words.specs.Bounds.{addresses};

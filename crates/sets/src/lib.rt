@@ -70,7 +70,7 @@ pub fn put_set(set: usize, out: &mut [u8]) -> usize
     ensures { (result ≡ length (bytes_of set)) × (out.new ≡ over (bytes_of set) out.old) × (result ≤ 7) }
 {
     let n = length_of(set);
-    // No `copy_from_slice`: of n bytes it is a call of C's memcpy, and the library calls nothing.
+    // No `copy_from_slice`: of n bytes it tests for overlap, and then copies byte by byte too.
     for i in 0..n {
         out[i] = byte_of(set, i + 1);
     }

@@ -38,7 +38,7 @@ pub fn start() -> Held
 }
 
 // The kind that a kind byte is taken for: kinds 10 and 11 are unknown here, as 0 is. No record holds the image of one.
-#[tactic(auto, using(steps::proofs::StepLaws::choices), unfolding(crate::specs::Sittings::taken_for))]
+#[tactic(auto, using(words::proofs::Choices::choices), unfolding(crate::specs::Sittings::taken_for))]
 fn taken_for(kind: u8) -> u8
     ensures { result ≡ taken_for kind }
 {

@@ -12,7 +12,7 @@ use lib.Dec.{leb, ltb}
 use borrow.Author.Tests.{eqb-true, eq-eqb, leb-true, ltb-true, ltb-false, le-ltb, not-false}
 use Rattle.words.specs.Choice.{◌⇒◌⁏◌, ◌and◌, ◌or◌, ◌is◌}
 use Rattle.words.specs.Bytes.{byte}
-use Rattle.words.proofs.Choices.{past, either, rest, and_true, or_true}
+use Rattle.words.proofs.Choices.{past, either, rest, and_true, or_true, choices}
 use Rattle.chips.specs.declared.Facts.{Facts}
 use Rattle.slot.specs.declared.Slot.{Slot}
 use Rattle.steps.specs.declared.Status.{Status}
@@ -22,7 +22,6 @@ use Rattle.steps.specs.declared.Ins.{Ins}
 use Rattle.steps.specs.declared.Ins.TheVariants.{Select, Page, Read, Counter, Bits, Write, Protect, Present, Change, Other}
 use Rattle.steps.specs.Steps.{ins_of, p1p2, p3, body, meant, top, known}
 use Rattle.steps.specs.Steps.{needs_type, has, following, length_fits, place_fits, range_test, place_of, value_fits, needs_open, ordered, reaching, steps, order}
-use Rattle.steps.proofs.StepLaws.{choices}
 
 -- the range test answers the address that it took, where it fits
 pub ranged_at : (f : Facts) (i : Ins) (a n : ℕ) {at : ℕ} → range_test f i a n ≡ Ok at → (a ≡ at) × (place_fits f i a n ≡ true)

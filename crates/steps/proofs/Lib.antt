@@ -1,4 +1,3 @@
-pub mod StepLaws
 pub mod StepByStep
 pub mod Decisions
 pub mod PresentAgain

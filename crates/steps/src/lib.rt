@@ -1,7 +1,7 @@
 // The nine steps: what they end in, and the steps of the commands that only look: A4, 01, B0, B1, B2. Inner functions: they ask that P3
 // comes from a byte. The rules are written in specs/Steps.antt, one table for each step, and its chain `steps` in the paper's order. What step 7
 // makes of INS, P1P2 and P3 is handed to them (crate places): no handler is given P1P2 itself.
-#![tactic(auto, using(crate::proofs::StepLaws::choices), unfolding(crate::specs::Steps::steps, crate::specs::Steps::reaching, crate::specs::Steps::ins_of))]
+#![tactic(auto, using(words::proofs::Choices::choices), unfolding(crate::specs::Steps::steps, crate::specs::Steps::reaching, crate::specs::Steps::ins_of))]
 
 ghost use Rattle.std.specs.Prelude.{◌≡◌, ℕ, ◌<◌, true, false, MatchResult};
 ghost use Rattle.chips.specs.Kinds.{facts};

@@ -5,9 +5,9 @@ use Prim.Native.Nat.{ℕ, ◌*◌, ◌%◌, ◌^◌, ◌≤◌}
 use lib.Pow.{pow_mono}
 use borrow.Author.Tests.{leb-true}
 use Rattle.std.specs.Prelude.{Ok}
+use Rattle.words.proofs.Choices.{choices}
 use Rattle.steps.specs.declared.Order.{Order}
 use Rattle.steps.specs.Steps.{steps, reaching}
-use Rattle.steps.proofs.StepLaws.{choices}
 use Rattle.steps.proofs.page_order.Goals as goal
 use Rattle.steps.proofs.page_order.Goals.{then-v-ge3, else-v-ge3}
 
