@@ -1,3 +1,3 @@
-pub mod StepByStep
+pub mod StepLaws
 pub mod Decisions
 pub mod PresentAgain

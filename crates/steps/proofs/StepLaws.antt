@@ -1,5 +1,5 @@
--- A law for each step, for any instruction: how far a command has come that passed the steps so far, and where it stops. docs/CHANGES.md
--- names them; a handler's proof is found by the choices of crate words.
+-- A law for each step, for any instruction: how far a command has come that passed the steps so far, and where it stops. A handler's proof
+-- is found by the laws of choices (words); these say the same by step.
 use Prim.Native.Nat.{ℕ, ◌+◌}
 use mathlib.Core.Path.{◌≡◌, sym, ap, ◌∙◌}
 use mathlib.Core.Bool.{true, false, not}
