@@ -190,6 +190,9 @@ impl Slot {
     pub fn own_type(self) -> u8
         ensures { result ≡ own_type self.holds }
     {
-        self.holds.map_or(0, |chip| chip.facts().selects)
+        match self.holds {
+            None => 0,
+            Some(chip) => chip.facts().selects,
+        }
     }
 }

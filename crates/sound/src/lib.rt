@@ -13,15 +13,22 @@ use words::byte_at;
 fn full_code(slot: Slot, image: &[u8]) -> bool
     ensures { result ≡ full_code slot.holds image.now }
 {
-    slot.holds.is_some_and(|chip| chip.facts().coded
-        && byte_at(image, chip.facts().counter) == chip.facts().full)
+    match slot.holds {
+        None => false,
+        Some(chip) => {
+            chip.facts().coded && byte_at(image, chip.facts().counter) == chip.facts().full
+        }
+    }
 }
 
 // Whether the image is one of the card that is in; with none it is not looked at.
 pub fn fits(slot: Slot, image: &[u8]) -> bool
     ensures { result ≡ image_is_card slot.holds image.now }
 {
-    slot.holds.is_none_or(|chip| card::is_card(chip, image))
+    match slot.holds {
+        None => true,
+        Some(chip) => card::is_card(chip, image),
+    }
 }
 
 // No card means inactive and page 8, and no command 01 that has succeeded.
