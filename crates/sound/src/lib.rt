@@ -1,5 +1,6 @@
 // When a slot record is sound beside an image, and whether the image is one of its card. No offered function has a `requires`: any record,
 // however made, beside any image has its answer. The rules are written in specs/Sound.antt.
+// Tests return early: as conditions (`a && b`) they were tried, and a slot status of an empty slot costs 7 % more instructions, a refused record up to 5 %.
 #![tactic(auto, using(words::proofs::Tests::conditions), unfolding(crate::specs::Sound::empty_sound, crate::specs::Sound::idle_sound, crate::specs::Sound::type_sound, crate::specs::Sound::open_sound, crate::specs::Sound::set_sound, crate::specs::Sound::counts_sound))]
 
 ghost use Rattle.std.specs.Prelude.{◌≡◌, true};
@@ -13,50 +14,75 @@ use words::byte_at;
 fn full_code(slot: Slot, image: &[u8]) -> bool
     ensures { result ≡ full_code slot.holds image.now }
 {
-    match slot.holds {
-        None => false,
-        Some(chip) => {
-            chip.facts().coded && byte_at(image, chip.facts().counter) == chip.facts().full
-        }
+    let Some(chip) = slot.holds else {
+        return false;
+    };
+    if !chip.facts().coded {
+        return false;
     }
+    byte_at(image, chip.facts().counter) == chip.facts().full
 }
 
 // Whether the image is one of the card that is in; with none it is not looked at.
 pub fn fits(slot: Slot, image: &[u8]) -> bool
     ensures { result ≡ image_is_card slot.holds image.now }
 {
-    match slot.holds {
-        None => true,
-        Some(chip) => card::is_card(chip, image),
-    }
+    let Some(chip) = slot.holds else {
+        return true;
+    };
+    card::is_card(chip, image)
 }
 
 // No card means inactive and page 8, and no command 01 that has succeeded.
 fn empty_sound(slot: Slot) -> bool
     ensures { result ≡ empty_sound slot }
 {
-    slot.has_card() || (!slot.active && slot.page == 8 && !slot.chosen)
+    if slot.has_card() {
+        return true;
+    }
+    if slot.active {
+        return false;
+    }
+    if slot.page != 8 {
+        return false;
+    }
+    !slot.chosen
 }
 
 // Inactive means no type and closed.
 fn idle_sound(slot: Slot) -> bool
     ensures { result ≡ idle_sound slot }
 {
-    slot.active || (slot.selected == 0 && !slot.open)
+    if slot.active {
+        return true;
+    }
+    if slot.selected != 0 {
+        return false;
+    }
+    !slot.open
 }
 
 // A selected type is the kind's own.
 fn type_sound(slot: Slot) -> bool
     ensures { result ≡ type_sound slot }
 {
-    slot.selected == 0 || slot.selected == slot.own_type()
+    if slot.selected == 0 {
+        return true;
+    }
+    slot.selected == slot.own_type()
 }
 
 // Open means a code card with its type selected and a full counter.
 fn open_sound(slot: Slot, image: &[u8]) -> bool
     ensures { result ≡ open_sound slot image.now }
 {
-    !slot.open || (full_code(slot, image) && slot.selected == slot.own_type())
+    if !slot.open {
+        return true;
+    }
+    if !full_code(slot, image) {
+        return false;
+    }
+    slot.selected == slot.own_type()
 }
 
 // SetParameters would take the parameters; with no card they are the default.
@@ -64,15 +90,24 @@ fn open_sound(slot: Slot, image: &[u8]) -> bool
 fn set_sound(slot: Slot) -> bool
     ensures { result ≡ set_sound slot.holds slot.set }
 {
-    slot.set == sets::default_set() || (slot.has_card() && sets::is_taken(slot.set))
+    if slot.set == sets::default_set() {
+        return true;
+    }
+    if !slot.has_card() {
+        return false;
+    }
+    sets::is_taken(slot.set)
 }
 
 // Tries left and number of protected bytes are those of the image; with no card both are 0.
 fn counts_sound(slot: Slot, image: &[u8]) -> bool
     ensures { result ≡ counts_sound slot image.now }
 {
-    slot.tries == counts::tries_of(slot.holds, image)
-        && slot.protected == counts::protected_of(slot.holds, image)
+    let holds = slot.holds;
+    if slot.tries != counts::tries_of(holds, image) {
+        return false;
+    }
+    slot.protected == counts::protected_of(holds, image)
 }
 
 // The six of the seven that ask no count. The set is asked for early, since it is most often the default.
@@ -80,12 +115,22 @@ fn state_sound(slot: Slot, image: &[u8]) -> bool
     ensures { result ≡ (page_size slot.page and set_sound slot.holds slot.set and empty_sound slot and idle_sound slot and type_sound slot
         and open_sound slot image.now) }
 {
-    page_size(slot.page)
-        && set_sound(slot)
-        && empty_sound(slot)
-        && idle_sound(slot)
-        && type_sound(slot)
-        && open_sound(slot, image)
+    if !page_size(slot.page) {
+        return false;
+    }
+    if !set_sound(slot) {
+        return false;
+    }
+    if !empty_sound(slot) {
+        return false;
+    }
+    if !idle_sound(slot) {
+        return false;
+    }
+    if !type_sound(slot) {
+        return false;
+    }
+    open_sound(slot, image)
 }
 
 // Whether the record is sound, beside any image.
@@ -93,7 +138,10 @@ fn state_sound(slot: Slot, image: &[u8]) -> bool
 pub fn is_sound(slot: Slot, image: &[u8]) -> bool
     ensures { result ≡ sound slot image.now }
 {
-    state_sound(slot, image) && counts_sound(slot, image)
+    if !state_sound(slot, image) {
+        return false;
+    }
+    counts_sound(slot, image)
 }
 
 // The counts of a record beside an image of its card; with no card both are 0.
@@ -103,11 +151,16 @@ fn counts_stand(slot: Slot, image: &[u8]) -> bool
     requires { image_is_card slot.holds image.now ≡ true }
     ensures { result ≡ counts_sound slot image.now }
 {
-    match slot.holds {
-        None => slot.tries == 0 && slot.protected == 0,
-        Some(chip) => slot.tries == counts::tries_in(chip, image)
-            && slot.protected == counts::count_in(chip, image),
+    let Some(chip) = slot.holds else {
+        if slot.tries != 0 {
+            return false;
+        }
+        return slot.protected == 0;
+    };
+    if slot.tries != counts::tries_in(chip, image) {
+        return false;
     }
+    slot.protected == counts::count_in(chip, image)
 }
 
 // Whether the record is sound, beside an image of its card.
@@ -117,7 +170,10 @@ pub fn stands(slot: Slot, image: &[u8]) -> bool
     requires { image_is_card slot.holds image.now ≡ true }
     ensures { result ≡ sound slot image.now }
 {
-    state_sound(slot, image) && counts_stand(slot, image)
+    if !state_sound(slot, image) {
+        return false;
+    }
+    counts_stand(slot, image)
 }
 
 // Whether a number is a reader page: a power of two, and at least 8.
