@@ -9,7 +9,7 @@ use lib.ListN.{length, drop, get_or-eq_default}
 use borrow.Author.Tests.{eqb-true, eq-eqb, leb-true, le-leb, not-true}
 use Rattle.words.specs.Choice.{◌is◌}
 use Rattle.words.specs.Bytes.{byte, blank, four_at}
-use Rattle.words.proofs.Choices.{and_true, and_holds, both}
+use Rattle.words.proofs.Choices.{and_true, and_holds, and_end, both}
 use Rattle.words.proofs.Lists.{blank_end, blank_four, zero_last}
 use Rattle.chips.specs.declared.Chip.{Chip}
 use Rattle.chips.specs.declared.Facts.{Facts}
@@ -71,3 +71,6 @@ plain_card chip image e long zeros = card_parts (facts chip) image (sym (plain_t
 -- a code card has no byte that has to be 00h
 pub coded_zeros : (chip : Chip) (image : List ℕ) → (facts chip).coded ≡ true → length image ≡ (facts chip).size → blank (drop (facts chip).zeros image) ≡ true
 coded_zeros chip image e long = blank_end image (facts chip).zeros (omega (arith, long, (coded chip e).filled))
+
+-- what the test of an image comes to, without a code and with one
+pub ruleset plain_or_coded = (full_test, four_test, coded_zeros, and_end)

@@ -23,6 +23,7 @@ pub fn protection(chip: Chip) -> Protection
 // Whether an image is a card of this chip: its length is the chip's, its counter is at most full, the counter's own protection bit is
 // not 0, and the bytes that have to be 00h are. A card without a code has no counter; one with a code has no such bytes. They are the
 // last four.
+#[tactic(auto, using(words::proofs::Tests::conditions, crate::proofs::ImageLaws::plain_or_coded), unfolding(crate::specs::Images::is_card))]
 pub fn is_card(chip: Chip, image: &[u8]) -> bool
     ensures { result ≡ is_card (facts chip) image.now }
 {
@@ -30,14 +31,8 @@ pub fn is_card(chip: Chip, image: &[u8]) -> bool
         return false;
     }
     if !chip.facts().coded {
-        if chip.facts().zeros == chip.facts().size {
-            return true;
-        }
-        return four_at(image, chip.facts().zeros) == 0;
+        return chip.facts().zeros == chip.facts().size || four_at(image, chip.facts().zeros) == 0;
     }
     let at = chip.facts().counter;
-    if chip.facts().full < image[at] {
-        return false;
-    }
-    !protection(chip).protects(image, at)
+    image[at] <= chip.facts().full && !protection(chip).protects(image, at)
 }

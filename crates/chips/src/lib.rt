@@ -39,6 +39,7 @@ pub struct Facts {
     // The type that A4 selects.
     pub selects: u8,
     // Whether it is a code card: it has a counter and a code.
+    // No Option of what follows: rules (`place_fits`, `bytes_read`, `presenting`) take these numbers of any row, so that none of them has a case without a code.
     pub coded: bool,
     // A counter with all tries, and where the counter stands.
     pub full: u8,
@@ -77,7 +78,7 @@ fn i2c_row(kind: u8, size: usize, page: usize, selects: u8) -> Facts
     }
 }
 
-// A card without a code is memory and protection bytes.
+// A card without a code is memory and protection bytes, and else as an I2C card without pages. A row of the rules (`without_code`), as `i2c` is.
 fn row_without_code(
     kind: u8,
     size: usize,
@@ -89,25 +90,18 @@ fn row_without_code(
     ensures { result ≡ without_code kind size memory selects covered zeros }
 {
     Facts {
-        kind,
-        size,
         memory,
-        page: 0,
-        selects,
-        coded: false,
-        full: 0,
-        counter: size,
-        code: size,
-        digits: 0,
         bits: memory,
         covered,
         reach: covered,
         zeros,
+        ..i2c_row(kind, size, 0, selects)
     }
 }
 
 impl Chip {
     // The chip's row.
+    #[tactic(auto, unfolding(crate::specs::Kinds::facts))]
     pub fn facts(self) -> Facts
         ensures { result ≡ facts self }
     {
@@ -162,6 +156,8 @@ impl Chip {
 }
 
 // The chip of a kind number, where it is one.
+// No TryFrom: a number fails in one way, and the rule (`chip_of` of specs/Kinds.antt) gives an Option, which the contract and the theorem `chips_chip_of_only` name.
+#[tactic(auto, using(words::proofs::Tests::chains), unfolding(crate::specs::Kinds::chip_of, crate::specs::Kinds::chip_among))]
 pub fn chip_of(kind: u8) -> Option<Chip>
     ensures { result ≡ chip_of kind }
 {

@@ -16,7 +16,7 @@ pub struct Slot {
     pub holds: Option<Chip>,
     pub active: bool,
     pub open: bool,
-    // The selected type; 0 is none.
+    // The selected type; 0 is none. No Option: a raw record may hold any byte here, and is turned down by its rule (`type_sound`), not as it is read.
     pub selected: u8,
     // The reader page.
     pub page: u8,
@@ -37,7 +37,7 @@ pub fn empty() -> Slot
 }
 
 impl Slot {
-    // A record of its fields.
+    // A record of its fields. All nine by their place: `of` is offered, and the theorem `slot_of_only` says it of them one by one.
     pub fn of(
         holds: Option<Chip>,
         active: bool,
@@ -92,19 +92,16 @@ impl Slot {
     }
 
     // The reader page after A4 with a type: the one that was chosen, else 32 for 02h, 8 for 01h, and with another type the one there is.
+    #[tactic(auto, using(words::proofs::Tests::chains), unfolding(crate::specs::Slots::page_after, crate::specs::Slots::page_for))]
     fn page_after(self, own: u8) -> u8
         ensures { result ≡ page_after own self }
     {
-        if self.chosen {
-            return self.page;
+        match own {
+            _ if self.chosen => self.page,
+            0x02 => 32,
+            0x01 => 8,
+            _ => self.page,
         }
-        if own == 0x02 {
-            return 32;
-        }
-        if own == 0x01 {
-            return 8;
-        }
-        self.page
     }
 
     // The type is selected, with its page, and the card closed.

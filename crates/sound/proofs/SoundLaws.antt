@@ -4,17 +4,20 @@ use mathlib.Core.List.{List}
 use mathlib.Core.Bool.{Bool, true, false, not, true≢false, false≢true}
 use mathlib.Core.Logic.{◌⊎◌, inl, inr}
 use Prim.Native.Nat.{ℕ}
+use lib.ListN.{length}
 use borrow.Author.Tests.{eqb-true, eq-eqb, not-true}
 use Rattle.std.specs.Prelude.{Option, Some, None}
 use Rattle.words.specs.Choice.{◌and◌, ◌or◌, ◌is◌}
-use Rattle.words.proofs.Choices.{either, and_true, or_true, means_true, both, or_left, or_right, meaning}
+use Rattle.words.proofs.Choices.{either, and_fails, and_holds, and_true, or_true, means_true, both, or_left, or_right, meaning}
 use Rattle.chips.specs.declared.Chip.{Chip}
+use Rattle.chips.specs.Kinds.{facts}
+use Rattle.card.proofs.ImageLaws.{card_parts}
 use Rattle.sets.specs.Sets.{default_set, takes}
 use Rattle.sets.proofs.SetLaws.{default_taken}
 use Rattle.slot.specs.declared.Slot.{Slot}
 use Rattle.slot.specs.Slots.{occupied, own_type, page_for, page_after, removed, powered, selecting, paged, opened, closed, set_as, defaulted, tries_as, protected_as}
 use Rattle.counts.specs.Counts.{tries_of, protected_of, Counted, put_in}
-use Rattle.sound.specs.Sound.{full_code, page_size, empty_sound, idle_sound, type_sound, open_sound, set_sound, counts_sound, sound}
+use Rattle.sound.specs.Sound.{full_code, image_is_card, page_size, empty_sound, idle_sound, type_sound, open_sound, set_sound, counts_sound, sound}
 
 -- "It is sound when", as facts
 pub record Sound (s : Slot) (image : List ℕ) : Type 0 where
@@ -44,6 +47,23 @@ pub six_and_counts : (s : Slot) (image : List ℕ)
     → (page_size s.page and set_sound s.holds s.set and empty_sound s and idle_sound s and type_sound s and open_sound s image) and counts_sound s image ≡ sound s image
 unfolding sound
 six_and_counts s image = set_later (page_size s.page) (set_sound s.holds s.set) (empty_sound s) (idle_sound s) (type_sound s) (open_sound s image) (counts_sound s image)
+
+-- so the counts decide where the six hold, and a test of the six that fails decides alone
+pub six_hold : (s : Slot) (image : List ℕ)
+    → page_size s.page and set_sound s.holds s.set and empty_sound s and idle_sound s and type_sound s and open_sound s image ≡ true
+    → counts_sound s image ≡ sound s image
+six_hold s image e = and_holds e refl ∙ six_and_counts s image
+
+pub six_fail : (s : Slot) (image : List ℕ)
+    → page_size s.page and set_sound s.holds s.set and empty_sound s and idle_sound s and type_sound s and open_sound s image ≡ false
+    → sound s image ≡ false
+six_fail s image e = sym (and_fails (counts_sound s image) e ∙ six_and_counts s image)
+
+pub ruleset six = (six_hold, six_fail)
+
+-- an image of the card that is in has its length
+pub card_sized : (h : Option Chip) (chip : Chip) (image : List ℕ) → image_is_card h image ≡ true → h ≡ Some chip → length image ≡ (facts chip).size
+card_sized h chip image e i = (card_parts _ _ (sym (ap (λ (o : Option Chip). image_is_card o image) i) ∙ e)).long
 
 -- the default is sound beside every card, and with none
 pub default_sound : (h : Option Chip) → set_sound h default_set ≡ true
