@@ -43,9 +43,9 @@ pub fn write_state(slot: Slot, raw: &mut [u8])
     raw[4] = u8::from(slot.open);
     put_eight(raw, 5, slot.set);
     raw[13] = slot.tries;
-    let [low, high] = slot.protected.to_le_bytes();
-    raw[14] = low;
-    raw[15] = high;
+    let counted = slot.protected.to_le_bytes();
+    raw[14] = counted[0];
+    raw[15] = counted[1];
     raw[16] = u8::from(slot.chosen);
 }
 
