@@ -60,7 +60,7 @@ pub fn answer_length(verdict: Verdict) -> usize
 
 // ---- the header
 
-// bError.
+// bError. A function and no From: an impl of it for an Option of the library is not ours to write.
 fn error_of(fault: Option<Fault>) -> u8
     ensures { result ≡ b_error fault }
 {

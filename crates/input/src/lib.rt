@@ -66,6 +66,7 @@ fn wants_more(found: Result<Record, Stop>) -> bool
 
 // Reads on until the record at the front of the unused bytes is there whole, or is bad, or the input ends: no further than that record needs.
 // What it takes from the reader stands behind the bytes that were unused before, and nothing else is taken.
+// No `for`: it reads on until a reading wants no more, and counts nothing.
 // Two places and no struct of them: a turn of the session moves the first alone, and each slice here takes them apart again.
 pub fn bring<R: Read>(source: &mut Source<R>, input: &mut [u8], from: usize, to: usize) -> Brought
     requires { (longest_record ≤ length input.old) × (from ≤ to) × (to ≤ length input.old) }

@@ -10,7 +10,7 @@ ghost use Rattle.sound.specs.Sound.{full_code, image_is_card, page_size, empty_s
 use slot::Slot;
 use words::byte_at;
 
-// Whether the card is a code card with a full counter.
+// Whether the card is a code card with a full counter. No `is_some_and` here, nor `is_none_or` in `fits`: with a closure most calls cost more.
 fn full_code(slot: Slot, image: &[u8]) -> bool
     ensures { result ≡ full_code slot.holds image.now }
 {
