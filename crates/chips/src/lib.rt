@@ -34,9 +34,9 @@ pub struct Facts {
     // Image bytes, and how many of them, from 0 on, are memory.
     pub size: usize,
     pub memory: usize,
-    // The chip page; 0 where there is none.
+    // The chip page; 0 where there is none. No Option, as with `coded` below.
     pub page: usize,
-    // The type that A4 selects.
+    // The type that A4 selects. A number and no enum: it is compared with the byte that A4 carries and with a raw record's.
     pub selects: u8,
     // Whether it is a code card: it has a counter and a code.
     // No Option of what follows: rules (`place_fits`, `bytes_read`, `presenting`) take these numbers of any row, so that none of them has a case without a code.

@@ -1,5 +1,6 @@
 // A card command: the pseudo-APDU is decided, and the order performed. Inner functions: they ask that the image is as long as the card's, and
 // that the slot's number of protected bytes is the image's, and that the lent tail of the answer buffer is long enough. The rules are those of `steps` and `orders`.
+// What the slot counts stays a clause, as in `dispatch`.
 #![tactic(auto)]
 
 ghost use Rattle.std.specs.Prelude.{◌≡◌, ◌≤◌, ◌<◌, length, Ok};

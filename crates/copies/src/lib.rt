@@ -1,5 +1,5 @@
 // Bytes copied by blocks: a block is read whole and then laid, one wide load and one wide store, and nothing is called. Inner functions: each asks that the bytes
-// fit. What a block is stands in specs/Blocks.antt.
+// fit, in a clause of its own. What a block is stands in specs/Blocks.antt.
 #![tactic(auto)]
 
 ghost use Rattle.std.specs.Prelude.{◌≡◌, ◌+◌, ◌≤◌, ◌<◌, length};

@@ -46,7 +46,7 @@ fn put_word(mark: Mark, out: &mut [u8]) -> usize
     word.len()
 }
 
-// Whether a line shows its answer.
+// Whether a line shows its answer. Of a number, as the rules `shows` and `line` take it (`Done` of sitting says why).
 fn shown(mark: Mark, number: u8) -> bool
     ensures { result ≡ shows mark number }
 {

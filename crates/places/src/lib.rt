@@ -71,7 +71,7 @@ fn fits(chip: Chip, ins: Ins, at: usize, p: usize) -> bool
     }
 }
 
-// P1P2, P1 high.
+// P1P2, P1 high, as the rule has it (`p1p2`). That five bytes are there stays a clause: `command` has looked, and a type for these three functions is no plainer.
 fn p1p2(apdu: &[u8]) -> usize
     requires { 5 ≤ length apdu.now }
     ensures { (result ≡ p1p2 apdu.now) × (result < addresses) }

@@ -21,7 +21,7 @@ pub struct Turned {
     pub len: usize,
 }
 
-// One whole record is done, and its line is put into the buffer.
+// One whole record is done, and its line is put into the buffer. The buffers come one by one: each has its size and its clause.
 pub fn turn(
     mark: Mark,
     body: &[u8],

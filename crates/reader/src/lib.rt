@@ -35,7 +35,7 @@ pub fn front(msg: &[u8], room: usize) -> Result<u8, Refusal>
     Ok(msg[5])
 }
 
-// What the named slot does: tests 3 and 4, then the handler.
+// What the named slot does: tests 3 and 4, then the handler. A slice and no `Message`: `front` gives bSlot alone, and `reader_front_only` says it so.
 pub fn serve(slot: Slot, image: &mut [u8], msg: &[u8], answer: &mut [u8]) -> Reply
     requires { (10 ≤ length msg.now) × (least_room ≤ length answer.old) }
     ensures { Gives (served slot image.old msg.now) result image.new answer.old answer.new }

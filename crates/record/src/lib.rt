@@ -1,6 +1,7 @@
 // The raw slot record, 32 bytes: kind (0 none), active (0 or 1), selected type (0 none), reader page, open (0 or 1), protocol number and seven
 // bytes of the parameters, tries left, number of protected bytes in two, low first, whether the page was chosen (0 or 1), the rest 00h.
-// Any bytes at all may come as a record. No offered function has a `requires`: each has its one result for every input.
+// Any bytes at all may come as a record, so it is a slice and no array; one of 32 passes what `tests/arrays` lets stand.
+// No offered function has a `requires`: each has its one result for every input.
 // The rules are written in specs/Raw.antt.
 #![tactic(auto, using(words::proofs::Choices::choices), unfolding(crate::specs::Raw::slot_with, crate::specs::Raw::slot_of, crate::specs::Raw::card_with))]
 

@@ -60,7 +60,7 @@ impl Mark {
     }
 }
 
-// The record at a place. A header that is there whole decides whether the record is bad; then the body is there whole or cut.
+// The record at a place, its two numbers as the rules have them (`word_at`, `length_at`). A header that is there whole decides whether the record is bad; then the body is there whole or cut.
 pub fn read(input: &[u8], at: usize) -> Result<Record, Stop>
     ensures { result ≡ record_at input.now at }
 {

@@ -80,6 +80,7 @@ pub fn put_set(set: usize, out: &mut [u8]) -> usize
 // ---- what SetParameters takes
 
 // A protocol number fits a length of data.
+// The protocol is a number and no enum: any byte may stand there, and the rules (`fits_length`, `upper_bits`, `long_wait`) take it as one.
 fn fits_length(protocol: u8, n: usize) -> bool
     ensures { result ≡ fits_length protocol n }
 {

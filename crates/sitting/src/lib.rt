@@ -38,6 +38,7 @@ pub fn start() -> Held
 }
 
 // The kind that a kind byte is taken for: kinds 10 and 11 are unknown here, as 0 is. No record holds the image of one.
+// A number and no Option: the rules (`taken_for`, `inserting`) go on with a kind byte, and an insertion of 0 is turned down by its rule.
 #[tactic(auto, using(words::proofs::Choices::choices), unfolding(crate::specs::Sittings::taken_for))]
 fn taken_for(kind: u8) -> u8
     ensures { result ≡ taken_for kind }
@@ -46,6 +47,7 @@ fn taken_for(kind: u8) -> u8
 }
 
 // A card of a kind is put in. Only where it is accepted are its bytes laid into the lent image.
+// Slot and size apart, where `Held` has both: `perform` lessens the size first, and the rules take the two one by one. The verdict is asked by its number, which is told.
 fn put_in(kind: u8, card: &[u8], slot: Slot, size: usize, image: &mut [u8]) -> Done
     requires { (length image.old ≡ largest_held) × (size ≤ largest_held) }
     ensures { (was : List ℕ) → Leaves (inserting slot kind card.now (take size image.old)) result image.old image.new was was }

@@ -186,7 +186,7 @@ impl Slot {
         self.holds.is_some()
     }
 
-    // The type of the card that is in, 0 with none.
+    // The type of the card that is in, 0 with none: it is compared with `selected`, and the theorem `slot_own_type_only` has a number.
     pub fn own_type(self) -> u8
         ensures { result ≡ own_type self.holds }
     {

@@ -21,7 +21,7 @@ pub const RECORD: usize = 32773;
 // The bytes of the longest line that a session could print.
 pub const LINE: usize = 549;
 
-// A byte as a wider number.
+// A byte as a wider number. This and the lesser of two are words of the rules (docs/PROMISES.md) with one method of the library each.
 pub fn wide(b: u8) -> usize
     ensures { (result ≡ b) × (result < 256) }
 {
