@@ -123,14 +123,14 @@ impl<'a> Message<'a> {
         self.bytes[9]
     }
 
-    // How many bytes stand behind the header.
+    // How many bytes stand behind the header,
     fn data_len(&self) -> usize
         ensures { result ≡ length self.now - 10 }
     {
         self.bytes.len() - 10
     }
 
-    // What stands behind the header.
+    // and those bytes.
     pub fn data(&self) -> &[u8]
         ensures { result.now ≡ apdu self.now }
     {
@@ -205,7 +205,7 @@ impl Request {
 
 // ---- the chain
 
-// The first fault of a message, by what it asks for.
+// The first fault of a message of a type.
 pub fn fault_of(request: Request, slot: Slot, msg: &Message) -> Option<Fault>
     ensures { result ≡ fault_of request slot msg.now }
 {

@@ -9,7 +9,7 @@ use copies::lay;
 use records::Mark;
 use words::put_two;
 
-// A digit of lower-case hex. No `char::from_digit`: it gives an Option of a char, to be taken apart again.
+// A digit of lower-case hex.
 fn digit(d: u8) -> u8
     requires { d < 16 }
     ensures { result ≡ digit_of d }

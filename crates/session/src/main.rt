@@ -18,7 +18,7 @@ use words::{LARGEST_HELD, LINE, RECORD, ROOM};
 // more than a hundred years.
 const RECORDS: u64 = 4000000000000000000;
 
-// Hands bytes over, at once. Where they are not all taken, this is told, and the session is over; where that is not taken either,
+// Hands bytes over, at once. Where it is not all taken, this is told, and the session is over; where that is not taken either,
 // nobody is left to be told.
 fn hand<W: Write, E: Write>(output: &mut W, errors: &mut E, out: &[u8]) -> bool
     ensures { result ≡ true → Appends (W.contents output.old) (W.contents output.new) out.now }

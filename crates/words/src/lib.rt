@@ -50,7 +50,7 @@ pub fn four_at(s: &[u8], k: usize) -> usize
     u32::from_le_bytes(*s[k..k + 4].first_chunk().unwrap()) as usize
 }
 
-// The number in the eight bytes from k on, low first. Of two fours, as the rule has it (`eight_at`).
+// The number in the eight bytes from k on, low first.
 pub fn eight_at(s: &[u8], k: usize) -> usize
     requires { k + 8 ≤ length s.now }
     ensures { result ≡ eight_at s.now k }
@@ -65,7 +65,7 @@ pub fn byte_of(n: usize, k: usize) -> u8
     byte_at(&n.to_le_bytes(), k)
 }
 
-// Whether two slices of one length hold the same bytes: `same` is the rule's word for it.
+// Whether two slices of one length hold the same bytes.
 pub fn same_bytes(a: &[u8], b: &[u8]) -> bool
     requires { length a.now ≡ length b.now }
     ensures { result ≡ same a.now b.now }
