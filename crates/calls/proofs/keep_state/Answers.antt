@@ -1,11 +1,10 @@
 -- `keep_state` meets its contract: an answer writes bytes 1 to 12, a refusal leaves the record.
 use mathlib.Core.Path.{refl, sym, ap, ◌∙◌}
-use native.Mathlib.Omega.{arith}
 use Rattle.std.proofs.Common.{rules}
 use Rattle.std.specs.Prelude.{ℕ, ◌≡◌, Result, Ok, Err}
 use Rattle.words.specs.Choice.{◌is◌}
 use Rattle.words.proofs.Choices.{met, passed}
-use Rattle.record.proofs.RawLaws.{rest_long, state_written}
+use Rattle.record.proofs.RawLaws.{state_written}
 use Rattle.frame.specs.Exchange.{number}
 use Rattle.calls.specs.Calls.{keeping}
 use Rattle.calls.proofs.CallLaws.{number_not}
@@ -19,9 +18,6 @@ returns-in_err-len c =
       search rules,
       passed _ (ap (λ (v : Result ℕ Refusal). number v is 0) e ∙ number_not c.in_err-len.field-0.0) refl,
     )
-
-pub write_state-requires : goal.write_state-requires
-write_state-requires c = omega (arith, rest_long c.args.raw.now c.requires.1)
 
 pub returns : goal.returns
 unfolding keeping

@@ -2,8 +2,7 @@
 use mathlib.Core.Path.{refl, sym, ap}
 use mathlib.Core.Bool.{not}
 use native.Mathlib.Omega.{arith}
-use lib.ListN.{length-drop}
-use Rattle.words.proofs.Lists.{lent_tail, tail_is}
+use Rattle.words.proofs.Lists.{lent_tail}
 use Rattle.sets.specs.Sets.{bytes_of}
 use Rattle.frame.specs.Exchange.{told}
 use Rattle.frame.proofs.AnswerLaws.{gives_failed, gives_done, sealed_type, sealed_clear, names_0}
@@ -14,11 +13,6 @@ returns-then-is_some c image type does =
     let a = c.args in
     gives_failed a.request a.slot image a.msg.now c.fault_of-fault.ensures a.answer.now (ap not (sym c.if-is_some.ensures)) (omega arith)
     (sealed_type (sym type) c.seal.ensures)
-
-pub put_set-len-requires : goal.put_set-len-requires
-put_set-len-requires c =
-    let a = c.args in
-    rw (tail_is 10 a.answer.now) (omega (arith, length-drop 10 a.answer.now))
 
 pub seal_done-requires-clause-slot_0 : goal.seal_done-requires-clause-slot_0
 seal_done-requires-clause-slot_0 c = names_0 _ _ _ c.fault_of-fault.ensures (ap not (sym c.if-is_some.ensures))

@@ -3,14 +3,13 @@ use mathlib.Core.Path.{◌≡◌, refl, sym, ap, ◌∙◌}
 use mathlib.Core.Bool.{not}
 use mathlib.Core.List.{List, [], ◌∷◌}
 use native.Mathlib.Omega.{arith}
-use Prim.Native.Nat.{ℕ, ◌-◌}
-use lib.ListN.{length, take, set, length-set}
+use Prim.Native.Nat.{ℕ}
+use lib.ListN.{length, take, set}
 use lib.Seq.{length-take-le}
-use borrow.Rule.Slice.PartMut.{same_len_mid}
 use borrow.Author.Tests.{eq-eqb, ne_eqb}
 use Rattle.words.specs.Bytes.{over}
 use Rattle.words.proofs.Choices.{first, rest}
-use Rattle.words.proofs.Lists.{over_pair, over_lent, length_tail}
+use Rattle.words.proofs.Lists.{over_pair, over_lent}
 use Rattle.copies.specs.Blocks.{block}
 use Rattle.chips.specs.declared.Facts.{Facts}
 use Rattle.chips.specs.Kinds.{facts}
@@ -30,27 +29,9 @@ returns-then-facts-ne0 c =
       omega (arith, put.0),
     )
 
-pub bounds-out-1 : goal.bounds-out-1
-bounds-out-1 c = simp length-set (omega arith)
-
-pub slice_bounds-lay_block-count : goal.slice_bounds-lay_block-count
-slice_bounds-lay_block-count c = simp length-set (omega arith)
-
-pub slice_bounds-lay_block-start : goal.slice_bounds-lay_block-start
-slice_bounds-lay_block-start c = simp length-set (omega arith)
-
-pub lay_block-requires : goal.lay_block-requires
-lay_block-requires c =
-    (omega (arith, (laid c.args.chip).four, c.requires.0), rw (length_tail, length-set, length-set) (omega (arith, c.requires.1)))
-
 -- the first two bytes of six
 abbrev begun : List ℕ → List ℕ
 begun out = set (set out 0 0x3B) 1 0x04
-
-pub shape_of-out : goal.shape_of-out
-shape_of-out c =
-    let out : List ℕ = c.args.out.now in
-    same_len_mid 2 (length (begun out) - 2) (begun out) c.lay_block.new.dst c.lay_block.auto.dst ∙ length-set (set out 0 0x3B) 1 0x04 ∙ length-set out 0 0x3B
 
 pub returns : goal.returns
 unfolding reset block

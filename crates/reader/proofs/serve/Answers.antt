@@ -28,9 +28,6 @@ returns-then-not-fits c =
     gives_is (first _ _ (ap not (sym c.fits.ensures ∙ c.if-not-fits.true)))
     (gives_down Refusal.Image a.slot a.image.now a.answer.now c.turn_down.ensures.0 c.turn_down.ensures.1)
 
-pub stands-requires : goal.stands-requires
-stands-requires c = fits (goal.at.stands-requires c).Else-not-fits
-
 pub returns-then-not-stands : goal.returns-then-not-stands
 unfolding served
 returns-then-not-stands c =

@@ -1,13 +1,10 @@
 -- `message` meets its contract: what the reader gives on the lent front of the image is what is held.
 use mathlib.Core.Path.{◌≡◌, refl, ◌∙◌}
 use native.Mathlib.Omega.{arith}
-use lib.ListN.{length, length-take}
+use lib.ListN.{length}
 use Rattle.sitting.proofs.Holding.{leaves_message}
 use lib.Seq.{length-take-le}
 use Rattle.sitting.proofs.message.Goals as goal
-
-pub slice_bounds-message-end-2 : goal.slice_bounds-message-end-2
-slice_bounds-message-end-2 c = simp length-take (omega arith)
 
 pub returns : goal.returns
 returns c =

@@ -12,12 +12,6 @@ use Rattle.sitting.proofs.Holding.{leaves_is, leaves_taken}
 use Rattle.records.specs.declared.Mark.{Mark}
 use Rattle.sitting.proofs.perform.Goals as goal
 
-pub insert-requires : goal.insert-requires
-insert-requires c = (omega arith, omega (arith, c.least-size.ensures))
-
-pub message-requires : goal.message-requires
-message-requires c = omega (arith, c.least-size.ensures)
-
 pub returns-in-Insert : goal.returns-in-Insert
 returns-in-Insert c =
     let a = c.args in
