@@ -29,13 +29,6 @@ loop-k-init c =
     )
 
 -- ---- it found a protected byte
-pub store-requires : goal.store-requires
-store-requires c =
-    let l = c.loop-k in
-    let a = c.args in
-    let long = run_long a.protection.bits a.protection.covered l.image a.at l.i c.in-Some.k a.«data».now (omega arith) (omega arith) (sym c.in-Some.ensures.first) in
-    omega (arith, long, c.in-Some.ensures.within)
-
 pub loop-k-preserved : goal.loop-k-preserved
 loop-k-preserved c =
     let l = c.loop-k in
