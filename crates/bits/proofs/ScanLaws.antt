@@ -34,7 +34,7 @@ bits_turned_lem (suc (suc (suc (suc (suc (suc (suc zero))))))) b h l = omega ari
 bits_turned_lem (suc (suc (suc (suc (suc (suc (suc (suc j)))))))) b h l = absurd (omega arith)
 
 -- ---- the ones of a byte, from its lowest bit on
-bit_shifted : (n i j : ℕ) → bit_of (n / 2 ^ i) j ≡ bit_of n (i + j)
+pub bit_shifted : (n i j : ℕ) → bit_of (n / 2 ^ i) j ≡ bit_of n (i + j)
 bit_shifted n i j = ap (λ (m : ℕ). m % 2) (div-div-eq-div-mul n (2 ^ i) (2 ^ j) ∙ ap (λ (m : ℕ). n / m) (sym (pow-add 2 i j)))
 
 -- FFh is ones

@@ -1,7 +1,7 @@
 -- Laws of the input: the unused bytes slide to the front, what is read stands behind them, and a reading that wants more leaves room for it.
 use mathlib.Core.Path.{◌≡◌, sym, ap, ◌∙◌, subst}
 use mathlib.Core.Bool.{true, false, false≢true}
-use mathlib.Core.List.{List, ◌++◌, append_assoc}
+use mathlib.Core.List.{List, [], ◌++◌, append-nil, append_assoc}
 use Prim.Native.Nat.{ℕ, ◌+◌, ◌-◌, ◌≤◌, ◌<◌}
 use native.Mathlib.Omega.{arith}
 use lib.ListN.{length, take, drop, length-drop}
@@ -22,6 +22,9 @@ use Rattle.input.specs.Input.{part, wants, behind, Grows, Brings}
 use Rattle.input.specs.declared.Brought.{Brought}
 
 -- ---- what is unused
+pub grows_none : (l : List ℕ) → Grows l l
+grows_none l = record { came = []; grown = sym (append-nil l) }
+
 pub grows_more : {a b c : List ℕ} → Grows a b → Grows b c → Grows a c
 grows_more {a} f g = record { came = f.came ++ g.came; grown = g.grown ∙ ap (λ (t : List ℕ). t ++ g.came) f.grown ∙ append_assoc a f.came g.came }
 

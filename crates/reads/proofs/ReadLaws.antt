@@ -6,7 +6,7 @@ use Prim.Native.Nat.{ℕ, zero, suc, ◌+◌, ◌-◌, ◌≤◌, ◌<◌}
 use native.Mathlib.Decide.{dec_le}
 use native.Mathlib.Nat.{lt_of_not-le}
 use native.Mathlib.Omega.{arith}
-use lib.ListN.{length, take, drop, set, replicate, length-drop, length-replicate}
+use lib.ListN.{length, take, drop, set, replicate, length-set, length-drop, length-replicate}
 use lib.Seq.{sets, length-sets, length-take-le}
 use borrow.Author.Tests.{le-leb, lt-leb, lt-ltb, le-ltb}
 use Rattle.words.specs.Bytes.{over}
@@ -27,6 +27,19 @@ blank_behind at end k out h e = first _ _ (le-leb at k h) ∙ rest _ _ (le-ltb k
 pub blank_here : (at end k : ℕ) (out : List ℕ) → at ≤ k → k < end → blank_one at end k out ≡ set out (k - at) 0
 unfolding blank_one
 blank_here at end k out h e = first _ _ (le-leb at k h) ∙ first _ _ (lt-ltb k end e)
+
+pub length_blank_one : (at end k : ℕ) (out : List ℕ) → length (blank_one at end k out) ≡ length out
+length_blank_one at end k out = go (dec_le at k) (dec_le end k)
+  where
+    go : Dec (at ≤ k) → Dec (end ≤ k) → length (blank_one at end k out) ≡ length out
+    go (no h) e = ap length (blank_before at end k out (lt_of_not-le h))
+    go (yes h) (yes e) = ap length (blank_behind at end k out h e)
+    go (yes h) (no e) = ap length (blank_here at end k out h (lt_of_not-le e)) ∙ simp length-set
+
+pub length_blanked : (at end code n : ℕ) (out : List ℕ) → length (blanked at end code n out) ≡ length out
+unfolding blanked
+length_blanked at end code zero out = refl
+length_blanked at end code (suc n) out = length_blank_one at end (code + n) (blanked at end code n out) ∙ length_blanked at end code n out
 
 pub blanked_none : (at end code : ℕ) (out : List ℕ) → blanked at end code 0 out ≡ out
 unfolding blanked

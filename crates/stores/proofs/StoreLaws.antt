@@ -182,7 +182,7 @@ module _ (bits covered : ℕ) where
     found : Found bits covered image (at + i) (length vs - i) k
     found = first_found bits covered image (at + i) (length vs - i) k e
 
-    found_place : (at + i ≤ k) × (k < at + length vs)
+    pub found_place : (at + i ≤ k) × (k < at + length vs)
     found_place = (found.from, omega (arith, found.within))
 
     pub run_long : length run ≡ end - i

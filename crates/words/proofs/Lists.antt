@@ -28,7 +28,7 @@ copy_suc i (x ∷ s) [] h k = absurd (not-suc-le-zero k)
 copy_suc zero (x ∷ s) (y ∷ d) h k = refl
 copy_suc (suc i) (x ∷ s) (y ∷ d) h k = ap (λ (t : List ℕ). x ∷ t) (copy_suc i s d (le_of_suc-le-suc h) (le_of_suc-le-suc k))
 
-copy_more : (i : ℕ) (s d : List ℕ) → i < length s → i < length d → set (take i s ++ drop i d) i (get_or s i 0) ≡ take (i + 1) s ++ drop (i + 1) d
+pub copy_more : (i : ℕ) (s d : List ℕ) → i < length s → i < length d → set (take i s ++ drop i d) i (get_or s i 0) ≡ take (i + 1) s ++ drop (i + 1) d
 copy_more i s d h k = rw (add-one i) (copy_suc i s d h k)
 
 -- as many turns as there are bytes

@@ -43,8 +43,7 @@ pub loop-j-init : goal.loop-j-init
 loop-j-init c =
     let a = c.args in
     let f : ℕ → ℕ = λ k. packed a.self.bits a.self.covered a.image.now (a.at + 8 * k) 8 in
-    let all : c.loop-i.i ≡ a.n / 8 = omega arith in
-    c.loop-i.invariant ∙ ap (λ (i : ℕ). over (series f 0 (8 * i)) a.out.now) all
+    c.loop-i.invariant ∙ ap (λ (i : ℕ). over (series f 0 (8 * i)) a.out.now) (omega arith)
 
 pub loop-j-preserved : goal.loop-j-preserved
 loop-j-preserved c =
